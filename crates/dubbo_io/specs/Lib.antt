@@ -1,0 +1,10 @@
+pub mod Calls
+pub mod Count
+pub mod MemSink
+pub mod MemSource
+pub mod ReadFault
+pub mod Sink
+pub mod Source
+pub mod StdSink
+pub mod StdSource
+pub mod WriteFault
