@@ -1,0 +1,4 @@
+pub mod ScalarSpelling
+pub mod Written
+pub mod Read
+pub mod Codes
