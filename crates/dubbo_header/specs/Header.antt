@@ -13,7 +13,7 @@ abbrev pub LIMIT : ℕ
 LIMIT = 8388608
 
 -- the one spelling of a header: the magic, the flags, the status, the id and the length of the body
-abbrev pub header_bytes : Header → List ℕ
+unfoldable pub header_bytes : Header → List ℕ
 header_bytes header =
     MAGIC
     ++ flag_byte header.request header.two_way header.event header.serial ∷ header.status ∷ []

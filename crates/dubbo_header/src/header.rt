@@ -44,6 +44,7 @@ pub struct Header {
 }
 
 /// The bytes of a header.
+#[tactic(auto, unfolding(crate::specs::Header::header_bytes))]
 pub fn write_header(header: &Header) -> [u8; 16]
     requires serial { header.now.serial < 32 }
     requires length { header.now.length ≤ BODY_LIMIT }
@@ -65,6 +66,7 @@ pub fn write_header(header: &Header) -> [u8; 16]
 }
 
 /// The header that sixteen bytes are.
+#[tactic(auto, unfolding(crate::specs::Header::header_bytes))]
 pub fn read_header(bytes: &[u8; 16]) -> Result<Header, HeaderFault>
     ensures ok { (h : Header) → (result ≡ Ok h) ↔ Spells bytes.now h }
     ensures bad_magic { (first second : ℕ)

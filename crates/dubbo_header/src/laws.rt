@@ -8,6 +8,7 @@ ghost use Rattle.dubbo_header.specs.declared.header.Header.{Header};
 ///
 /// So what `write_header` writes is read back by `read_header` as the same header, and bytes that
 /// begin with a header begin with that one alone.
+#[tactic(auto, unfolding(crate::specs::Header::header_bytes))]
 pub fn one_spelling()
     ensures sixteen { (h : Header) → length (header_bytes h) ≡ 16 }
     ensures unique { (h other : Header) (rest more : List ℕ) → IsHeader h → IsHeader other
