@@ -1,0 +1,13 @@
+pub mod Cuts
+pub mod Ints
+pub mod Laws
+pub mod Lines
+pub mod Members
+pub mod Scripts
+pub mod Splits
+pub mod Targets
+pub mod Places
+pub mod Frames
+pub mod Joins
+pub mod Runs
+pub mod Provided
