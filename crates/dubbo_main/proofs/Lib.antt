@@ -1,0 +1,3 @@
+pub mod OneStatus
+pub mod StatusRows
+pub mod TwoWords

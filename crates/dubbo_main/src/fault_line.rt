@@ -1,0 +1,45 @@
+//! The one line that a run prints where it does not do its work. Making it takes no memory.
+ghost use Rattle.std.specs.Prelude.{◌≡◌, ◌+◌, ◌≤◌, ◌++◌, length, decimal};
+ghost use Rattle.dubbo_main.specs.FaultLines.{not_built_line, input_line};
+
+use arrayvec::ArrayString;
+use itoa::Buffer;
+
+/// The line for words that have no reading.
+pub const WORDS_LINE: &str = "fault words\n";
+
+/// The line for an input of too many bytes.
+pub const TOO_LONG_LINE: &str = "fault input too long\n";
+
+/// The line for want of memory.
+pub const MEMORY_LINE: &str = "fault memory\n";
+
+/// Room for any line with a number.
+pub type NumberLine = ArrayString<64>;
+
+/// The line for a script whose line with this number, counted from 1, is of no form that is built.
+pub fn not_built(line: u32) -> NumberLine
+    ensures { result.bytes ≡ not_built_line line }
+{
+    around("fault script ", u64::from(line), " not built\n")
+}
+
+/// The line for an input that failed so often.
+pub fn input_failed(faults: u64) -> NumberLine
+    ensures { result.bytes ≡ input_line faults }
+{
+    around("fault input ", faults, "\n")
+}
+
+/// A number between two texts.
+fn around(before: &str, number: u64, behind: &str) -> NumberLine
+    requires { length before.now + length behind.now ≤ 24 }
+    ensures { result.bytes ≡ before.now ++ decimal number ++ behind.now }
+{
+    let mut line = NumberLine::new();
+    let mut digits = Buffer::new();
+    line.push_str(before);
+    line.push_str(digits.format(number));
+    line.push_str(behind);
+    line
+}

@@ -1,0 +1,83 @@
+//! The top call: one run of the program, from its words and its input to its output and its status.
+ghost use Rattle.std.specs.Prelude.{◌≡◌, ◌+◌, ◌<◌, ◌⊎◌, map, string_bytes};
+ghost use Rattle.dubbo_main.specs.Words.{IsPlay};
+ghost use Rattle.dubbo_main.specs.Statuses.{Ends, Comes, IsExact, Plays};
+ghost use Rattle.dubbo_main.specs.Play.{input_limit};
+ghost use Rattle.dubbo_main.specs.FaultLines.{memory_line};
+ghost use Rattle.dubbo_main.specs.PlayFault.{status_of, line_of};
+
+use crate::commands::{PlayFault, play};
+use crate::fault_line::{MEMORY_LINE, TOO_LONG_LINE, WORDS_LINE, input_failed, not_built};
+use crate::words::are_play;
+use dubbo_io::{Sink, Source, write_all};
+use std::alloc::Global;
+
+/// Runs the command that the words name over this input, writes its output, and answers the status.
+///
+/// | Status | Comes |
+/// |---|---|
+/// | 0 | the script was played, and its transcript is written |
+/// | 1 | the words are other than the program's name and `play` |
+/// | 2 | the script was refused |
+/// | 3 | the input failed |
+/// | 4 | the output failed, in place of any other status whose text couldn't be written |
+/// | 6 | there was no memory |
+/// | 7 | the input has more than 4,194,304 bytes |
+pub fn run<I: Source, O: Sink>(
+    alloc: Global,
+    words: &Vec<String>,
+    input: &mut I,
+    output: &mut O,
+) -> u8
+    requires { (O.state output.old).open_to_all }
+    ensures status { Comes (map string_bytes words.now.items)
+        (I.state input.old) (I.state input.new) (O.state output.old) (O.state output.new) result }
+    ensures exact { IsExact (map string_bytes words.now.items) (I.state input.old) (I.state input.new) result }
+
+    // What this says of single statuses.
+    ensures played { result ≡ 0 → Plays (I.state input.old) (I.state input.new)
+        (O.state output.old) (O.state output.new) }
+    ensures other_words { ¬ IsPlay (map string_bytes words.now.items) → (result ≡ 1) ⊎ (result ≡ 4) }
+    ensures too_long { (I.state input.old).count + input_limit < (I.state input.new).count
+        → (result ≡ 7) ⊎ (result ≡ 4) }
+{
+    if !are_play(words) {
+        return finish(output, WORDS_LINE.as_bytes(), 1);
+    }
+    match play(alloc, input) {
+        Ok(text) => finish(output, &text, 0),
+        Err(fault) => tell(output, fault),
+    }
+}
+
+/// Ends a run that played nothing, with the line and the status of the fault. It takes no memory.
+fn tell<O: Sink>(output: &mut O, fault: PlayFault) -> u8
+    requires { (O.state output.old).open_to_all }
+    ensures { Ends (O.state output.old) (O.state output.new) (status_of fault) (line_of fault) result }
+{
+    match fault {
+        PlayFault::Input { faults } => finish(output, input_failed(faults).as_bytes(), 3),
+        PlayFault::TooLong => finish(output, TOO_LONG_LINE.as_bytes(), 7),
+        PlayFault::NotBuilt { line } => finish(output, not_built(line).as_bytes(), 2),
+        PlayFault::OutOfMemory => without_memory(output),
+    }
+}
+
+/// Ends a run for want of memory. It takes none.
+pub fn without_memory<O: Sink>(output: &mut O) -> u8
+    requires { (O.state output.old).open_to_all }
+    ensures { Ends (O.state output.old) (O.state output.new) 6 memory_line result }
+{
+    finish(output, MEMORY_LINE.as_bytes(), 6)
+}
+
+/// Writes what a run prints, and answers its status, or 4 where the output failed.
+fn finish<O: Sink>(output: &mut O, text: &[u8], status: u8) -> u8
+    requires { (O.state output.old).open_to_all }
+    ensures { Ends (O.state output.old) (O.state output.new) status text.now result }
+{
+    match write_all(output, text) {
+        Ok(()) => status,
+        Err(_) => 4,
+    }
+}
