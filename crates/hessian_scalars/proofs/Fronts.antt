@@ -43,18 +43,18 @@ found (c ∷ bs) v (suc n) l s = found_behind v n c bs l s
 
 -- ---- the beginning of a spelling is found as such
 
+pub filled : (more : List ℕ) → (more ≡ [] → ⊥) → 0 < length more
+filled [] h = absurd (h refl)
+filled (b ∷ more) h = omega arith
+
 pub part : (rest : List ℕ) → IsProperPrefix rest → front_of rest ≡ fronts.Part
 unfolding front_of
 part [] p = refl
 part (c ∷ bs) p =
     let w = complete p.value (c ∷ (bs ++ p.more)) p.spells in
-    let filled : 0 < length p.more = positive p.more p.lacks in
+    let more : 0 < length p.more = filled p.more p.lacks in
     let few : ltb (length (c ∷ bs)) (length (c ∷ (bs ++ p.more))) ≡ true = lt-ltb _ _ (omega (arith, length-append bs p.more)) in
     rw (front_behind c bs, w.opens, few) refl
-  where
-    positive : (more : List ℕ) → (more ≡ [] → ⊥) → 0 < length more
-    positive [] h = absurd (h refl)
-    positive (b ∷ more) h = omega arith
 
 pub double : (c : ℕ) (bs : List ℕ) → IsDoubleCode c → front_of (c ∷ bs) ≡ fronts.Double c
 double c bs d = rw (front_behind c bs, opens_double c d) refl

@@ -13,7 +13,7 @@ use Rattle.hessian_scalars.specs.declared.fault.ScalarFault.{ScalarFault}
 use Rattle.hessian_scalars.specs.declared.fault.ScalarFault.TheVariants as faults
 use Rattle.hessian_scalars.specs.ScalarSpelling.{IsCode, IsDoubleCode, int_of, ScalarSpelling}
 use Rattle.hessian_scalars.specs.ScalarSpelling.ScalarSpelling.{null, no, yes, int_in_code, int_and_byte, int_and_two, int_whole, long_in_code, long_and_byte, long_and_two, long_as_int, long_whole, date_in_millis, date_in_minutes}
-use Rattle.hessian_scalars.specs.Read.{IsSpelledAt, IsIntPrefix, IsProperPrefix, BeginsNoInt}
+use Rattle.hessian_scalars.specs.Read.{IsSpelledAt, IsIntPrefix, IsProperPrefix, BeginsInt, IsInt, BeginsNoInt}
 use Rattle.hessian_scalars.specs.Codes.{front_of, is_int_code, int_placed, int_at}
 use Rattle.hessian_scalars.proofs.Whole.{IsBytes, inside}
 use Rattle.hessian_scalars.proofs.Fronts.{IsBytes-drop, Shows, shown, found, part, has_code}
@@ -60,11 +60,6 @@ int_by_code v c more e (date_in_millis b7 b6 b5 b4 b3 b2 b1 b0 z g f p) = absurd
 int_by_code v c more e (date_in_minutes b3 b2 b1 b0 z f p) = absurd cc
 
 -- such a code begins an int
-pub record BeginsInt (c : ℕ) : Type 0 where
-  pub number : ℤ
-  pub more : List ℕ
-  pub spells : ScalarSpelling (scalars.Int number) (c ∷ more)
-
 outside : (c : ℕ) → is_int_code c ≡ true → is_in_range 0x80 0xbf c ≡ false → is_in_range 0xc0 0xcf c ≡ false → is_in_range 0xd0 0xd7 c ≡ false → c ≡ 0x49
 outside c e h i j = grind (arith, nat_tests)
 
@@ -87,9 +82,17 @@ other_code c h = by_test (is_int_code c) refl
     by_test true e = let begun = begins_int c e in absurd (h begun.number begun.more begun.spells)
     by_test false e = e
 
+pub begins_int_iff : (c : ℕ) → (is_int_code c ≡ true) ↔ BeginsInt c
+begins_int_iff c = (begins_int c, λ b. int_has_code b.number c b.more b.spells)
+
+pub only_ints : (v : Scalar) (c : ℕ) (more : List ℕ) → BeginsInt c → ScalarSpelling v (c ∷ more) → IsInt v
+only_ints v c more b s =
+    let i = int_by_code v c more (int_has_code b.number c b.more b.spells) s in
+    record { number = i.0; is = i.1 }
+
 -- ---- the answers, in bytes of which there are so many and of which `rest` stands from the place on
 
-get-drop : (at : ℕ) (bytes : List ℕ) → slice_get (drop at bytes) 0 ≡ slice_get bytes at
+pub get-drop : (at : ℕ) (bytes : List ℕ) → slice_get (drop at bytes) 0 ≡ slice_get bytes at
 get-drop zero bytes = refl
 get-drop (suc at) [] = refl
 get-drop (suc at) (b ∷ bytes) = get-drop at bytes

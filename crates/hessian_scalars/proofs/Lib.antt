@@ -4,3 +4,12 @@ pub mod Fronts
 pub mod Ints
 pub mod Shortest
 pub mod Laws
+pub mod ShortestLongs
+pub mod ShortestOthers
+pub mod Bytes
+pub mod Feeding
+pub mod Going
+pub mod Fed
+pub mod Scalars
+pub mod OneForm
+pub mod Residual

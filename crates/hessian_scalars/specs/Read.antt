@@ -1,5 +1,5 @@
 -- What stands at a place of bytes.
-use Rattle.std.specs.Prelude.{◌≢◌, ℕ, ◌≤◌, ℤ, List, [], ◌∷◌, ◌++◌, length, slice_range}
+use Rattle.std.specs.Prelude.{◌≡◌, ◌≢◌, ℕ, ◌≤◌, ℤ, List, [], ◌∷◌, ◌++◌, length, slice_range}
 use Rattle.hessian_scalars.specs.declared.scalar.Scalar.{Scalar}
 use Rattle.hessian_scalars.specs.declared.scalar.Scalar.TheVariants as scalars
 use Rattle.hessian_scalars.specs.ScalarSpelling.{ScalarSpelling, IsDoubleCode}
@@ -27,6 +27,17 @@ pub record IsIntPrefix (bytes : List ℕ) : Type 0 where
 pub record BeginsNothing (code : ℕ) : Type 0 where
   pub no_scalar : (v : Scalar) (more : List ℕ) → ScalarSpelling v (code ∷ more) → ⊥
   pub no_double : IsDoubleCode code → ⊥
+
+-- a spelling of an int begins with this code
+pub record BeginsInt (code : ℕ) : Type 0 where
+  pub number : ℤ
+  pub more : List ℕ
+  pub spells : ScalarSpelling (scalars.Int number) (code ∷ more)
+
+-- an int
+pub record IsInt (v : Scalar) : Type 0 where
+  pub number : ℤ
+  pub is : v ≡ scalars.Int number
 
 -- no spelling of an int begins with this code
 abbrev pub BeginsNoInt : ℕ → Type 0

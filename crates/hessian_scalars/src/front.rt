@@ -10,7 +10,7 @@ use crate::scalar::Scalar;
 /// What stands at the front of bytes.
 #[derive(Clone, Copy, Debug, PartialEq, Eq)]
 pub enum Front {
-    /// This scalar, in so many bytes.
+    /// This scalar, which ends behind so many of the bytes.
     Whole(Scalar, usize),
     /// The beginning of a scalar.
     Part,

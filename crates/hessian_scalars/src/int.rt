@@ -1,8 +1,8 @@
 //! An int by itself, as lengths, counts and numbers are written.
 
-ghost use Rattle.std.specs.Prelude.{◌≡◌, ◌↔◌, ◌≤◌, ℕ, ℤ, length, drop, slice_get, OnOk, OnErr};
+ghost use Rattle.std.specs.Prelude.{◌≡◌, ◌↔◌, ◌≤◌, ℕ, ℤ, length, drop, slice_get, IsTrue, OnOk, OnErr};
 ghost use Rattle.hessian_scalars.specs.Written.{Appends};
-ghost use Rattle.hessian_scalars.specs.Read.{IsSpelledAt, IsIntPrefix, BeginsNoInt};
+ghost use Rattle.hessian_scalars.specs.Read.{IsSpelledAt, IsIntPrefix, BeginsInt, BeginsNoInt};
 ghost use Rattle.hessian_scalars.specs.Codes.{is_int_code, int_at};
 ghost use Rattle.hessian_scalars.specs.declared.scalar.Scalar.TheVariants as scalars;
 
@@ -51,7 +51,14 @@ pub fn read_int(bytes: &[u8], at: usize) -> Result<(i32, usize), ScalarFault>
     int_from(bytes, at)
 }
 
-/// The same, as the codes say it.
+/// Whether an int begins with this code.
+pub fn begins_int(code: u8) -> bool
+    ensures { IsTrue result ↔ BeginsInt code }
+{
+    is_int_code(code)
+}
+
+/// The int at a place, as the codes say it.
 #[tactic(auto, unfolding(crate::specs::Codes::int_at))]
 fn int_from(bytes: &[u8], at: usize) -> Result<(i32, usize), ScalarFault>
     requires { at ≤ length bytes.now }
@@ -68,7 +75,7 @@ fn int_from(bytes: &[u8], at: usize) -> Result<(i32, usize), ScalarFault>
     }
 }
 
-/// Whether a code begins an int.
+/// Whether a code is of one of the rows of ints.
 fn is_int_code(code: u8) -> bool
     ensures { result ≡ is_int_code code }
 {

@@ -8,12 +8,20 @@ mod fault;
 mod front;
 mod int;
 mod law;
+mod reader;
 mod scalar;
+mod write;
 
 pub use fault::{OutOfMemory, ScalarFault};
-pub use int::{read_int, write_int};
-pub use law::{bytes_have_one_value, no_spelling_goes_on, written_is_read_back};
+pub use front::Front;
+pub use int::{begins_int, read_int, write_int};
+pub use law::{
+    bytes_have_one_value, int_codes_begin_ints_alone, no_spelling_goes_on, writer_has_one_spelling,
+    written_is_read_back,
+};
+pub use reader::{ScalarReader, read_scalar};
 pub use scalar::Scalar;
+pub use write::write_scalar;
 
 #[cfg(test)]
 mod tests;
