@@ -1,0 +1,5 @@
+pub mod Slots
+pub mod Sitting
+pub mod Answering
+pub mod Scanning
+pub mod Deciding

@@ -1,0 +1,11 @@
+pub mod Words
+pub mod Sites
+pub mod Taken
+pub mod DeskLogs
+pub mod WindowLogs
+pub mod DeskAnswers
+pub mod WindowAnswers
+pub mod Beside
+pub mod Accounts
+pub mod PlainSlots
+pub mod PlainTables
