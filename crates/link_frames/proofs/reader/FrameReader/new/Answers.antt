@@ -1,0 +1,6 @@
+use Rattle.link_frames.proofs.StepLemmas.{fresh_fits}
+use Rattle.link_frames.proofs.reader.FrameReader.new.Goals as goal
+
+pub invariant_of-result : goal.invariant_of-result
+invariant_of-result g c =
+    record { fits = fresh_fits (g.S.Source.state c.args.source) c.in-Ok.paused c.in-Ok.ensures.begins c.in-Ok.ensures.place }

@@ -1,0 +1,7 @@
+pub mod Beat
+pub mod Begun
+pub mod Frames
+pub mod Next
+pub mod Paused
+pub mod Steps
+pub mod Window
