@@ -1,0 +1,6 @@
+pub mod Choice
+pub mod Held
+pub mod Names
+pub mod Points
+pub mod Refusals
+pub mod RingFields
