@@ -1,3 +1,6 @@
+pub mod FedLemmas
+pub mod FedNext
+pub mod FedSteps
 pub mod FramesLemmas
 pub mod NextLemmas
 pub mod PausedLemmas

@@ -54,7 +54,7 @@ module _ (begun later : Begun) (window : List ℕ) (n : ℕ) (takes : TakesUp be
       } in
       (unfinished_body header (body ++ window) begun.whole short, held, is_place, left_over ∙ all_taken n window left)
 
-  passes_body : left_of later ≡ 0 → after.part ≡ part.Head [] → after.place ≡ place + (16 + (header_of later).length) → (body : List ℕ) → Took begun body → Passes place (header_bytes (header_of begun) ++ (body ++ window)) after (record { header = header_of later; body = body ++ take n window })
+  pub passes_body : left_of later ≡ 0 → after.part ≡ part.Head [] → after.place ≡ place + (16 + (header_of later).length) → (body : List ℕ) → Took begun body → Passes place (header_bytes (header_of begun) ++ (body ++ window)) after (record { header = header_of later; body = body ++ take n window })
   passes_body whole is_part is_place body has =
       let frame : Frame = record { header = header_of later; body = body ++ take n window } in
       let count = (takes.took body has).count in
@@ -65,6 +65,7 @@ module _ (begun later : Begun) (window : List ℕ) (n : ℕ) (takes : TakesUp be
         split = rw takes.header (split_window (header_bytes (header_of begun)) body window n);
         holds = record { taken = []; part = subst (λ p. HoldsPart p []) (sym is_part) refl; split = sym left_over };
         moved = omega (arith, is_place, sized, length-frame_bytes frame);
+        between = is_part;
       }
 
   pub whole_body : left_of later ≡ 0 → after.part ≡ part.Head [] → after.place ≡ place + (16 + (header_of later).length) → (answer : Next) → ((body : List ℕ) → Took later body → Finishes (header_of later) body answer) → (body : List ℕ) → Took begun body → Advances place (header_bytes (header_of begun) ++ (body ++ window)) after (Some answer)

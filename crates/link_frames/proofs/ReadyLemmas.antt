@@ -15,7 +15,7 @@ use Rattle.link_frames.proofs.PausedLemmas.{take-header, unfinished_body, filled
 use Rattle.link_frames.proofs.StepLemmas.{some_body}
 
 -- bytes that hold a whole frame are decided
-decided_whole : (held : List ℕ) (header : Header) (behind : List ℕ) → IsHeader header → held ≡ header_bytes header ++ behind → header.length ≤ length behind → IsUnfinished held → ⊥
+pub decided_whole : (held : List ℕ) (header : Header) (behind : List ℕ) → IsHeader header → held ≡ header_bytes header ++ behind → header.length ≤ length behind → IsUnfinished held → ⊥
 decided_whole held header behind fits split long (inl short) =
     omega (arith, ap length split, length-append (header_bytes header) behind, length-header_bytes header)
 decided_whole held header behind fits split long (inr u) =

@@ -1,7 +1,7 @@
 -- A write of two pieces, one behind the other.
-use Rattle.std.proofs.Common.{◌≡◌, ℕ, ◌+◌, List, ◌++◌, length, take, arith, length-append}
+use Rattle.std.proofs.Common.{◌≡◌, ℕ, ◌+◌, List, ◌++◌, length, take, ap, ◌∙◌, subst, append_assoc, arith, length-append}
 use Rattle.std.proofs.lemmas.List.{take-append-le}
-use Rattle.std.proofs.Math.Seq.{take-append-add, take-length}
+use Rattle.std.proofs.Math.Seq.{take-append-add, take-append_seam, take-length}
 use Rattle.dubbo_io.specs.Sink.{SinkState, Sends, SentFront}
 use Rattle.dubbo_io.specs.WriteFault.{StopsWriting, gone_of, faults_of}
 use Rattle.dubbo_io.specs.declared.writing.WriteFault.{WriteFault}
@@ -34,3 +34,10 @@ stopped_front a b bytes fault stop = (gone_of fault, stop.within, stop.sends)
 -- all bytes are a front of them
 pub all_front : {Badge : Type 0} (a b : SinkState Badge) (bytes : List ℕ) → Sends a b bytes → SentFront a b bytes
 all_front a b bytes sends = (length bytes, omega arith, rw (take-length bytes) sends)
+
+-- two pieces that were put into a buffer, one behind the other
+pub joined_front : (x y front body z p : List ℕ) → length front ≡ 16 → take 16 x ≡ front → y ≡ body ++ z → take (16 + length body) (take 16 x ++ (y ++ p)) ≡ front ++ body
+joined_front x y front body z p sixteen first then =
+    let behind : take (length body) ((body ++ z) ++ p) ≡ body = ap (take (length body)) (append_assoc body z p) ∙ take-append_seam body (z ++ p) in
+    let whole = take-append-add front ((body ++ z) ++ p) (length body) ∙ ap (λ (l : List ℕ). front ++ l) behind in
+    rw (first, then) (subst (λ n. take (n + length body) (front ++ ((body ++ z) ++ p)) ≡ front ++ body) sixteen whole)

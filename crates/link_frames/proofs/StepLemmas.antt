@@ -189,7 +189,7 @@ fresh_fits now paused holds start = record {
 
 -- ---- several steps
 
-later_answers : {Badge : Type 0} (a b c : SourceState Badge) (place : ℕ) (held bytes came all : List ℕ) (after : Paused) (answer : Next) → held ++ came ≡ bytes → a.faults ≤ b.faults → StepAnswers b c place (held ++ came) came after (Some answer) → StepAnswers a c place bytes all after (Some answer)
+pub later_answers : {Badge : Type 0} (a b c : SourceState Badge) (place : ℕ) (held bytes came all : List ℕ) (after : Paused) (answer : Next) → held ++ came ≡ bytes → a.faults ≤ b.faults → StepAnswers b c place (held ++ came) came after (Some answer) → StepAnswers a c place bytes all after (Some answer)
 later_answers a b c place held bytes came all after (next.Frame header body) e le s = subst (λ (l : List ℕ). StepAnswers a c place l all after (Some (next.Frame header body))) e s
 later_answers a b c place held bytes came all after (next.NoMemory header) e le s = subst (λ (l : List ℕ). StepAnswers a c place l all after (Some (next.NoMemory header))) e s
 later_answers a b c place held bytes came all after next.End e le s = subst (λ (l : List ℕ). StepAnswers a c place l all after (Some next.End)) e s

@@ -1,5 +1,5 @@
 -- A frame that has begun, and the bytes of its body that came.
-use Rattle.std.specs.Prelude.{◌≡◌, ℕ, ◌+◌, List, length, IfSome}
+use Rattle.std.specs.Prelude.{◌≡◌, ℕ, ◌+◌, List, length, IfSome, None}
 use Rattle.dubbo_header.specs.declared.header.Header.{Header}
 use Rattle.link_frames.specs.declared.begun.Begun.{Begun}
 use Rattle.link_frames.specs.declared.next.Next.{Next}
@@ -16,6 +16,10 @@ left_of begun = begun.left
 pub record Took (begun : Begun) (body : List ℕ) : Type 0 where
   pub count : length body + begun.left ≡ begun.header.length
   pub kept : IfSome begun.kept (λ bytes. bytes.items ≡ body)
+
+-- nothing of the body is kept
+abbrev pub KeepsNone : Begun → Type 0
+KeepsNone begun = begun.kept ≡ None
 
 -- the frame with this body, or that there was no memory for it
 abbrev pub Finishes : Header → List ℕ → Next → Type 0

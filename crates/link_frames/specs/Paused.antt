@@ -38,6 +38,10 @@ abbrev pub IsUnfinished : List ℕ → Type 0
 IsUnfinished bytes = (length bytes < 16)
     ⊎ ((header : Header) × Spells (take 16 bytes) header × (length bytes < 16 + header.length))
 
+-- no frame has begun
+abbrev pub IsBetween : Paused → Type 0
+IsBetween paused = paused.part ≡ part.Head []
+
 -- the frame stands at the front of these bytes, and the reader goes on behind it
 pub record Passes (place : ℕ) (held : List ℕ) (after : Paused) (frame : Frame) : Type 0 where
   pub whole : IsFrame frame
@@ -45,6 +49,7 @@ pub record Passes (place : ℕ) (held : List ℕ) (after : Paused) (frame : Fram
   pub split : held ≡ frame_bytes frame ++ rest
   pub holds : Holds after rest
   pub moved : after.place ≡ place + length (frame_bytes frame)
+  pub between : IsBetween after
 
 -- the reader stays with this answer
 abbrev pub HasEnded : Paused → Ending → Type 0

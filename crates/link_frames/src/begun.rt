@@ -24,7 +24,7 @@ pub struct Begun {
 }
 
 impl Begun {
-    ghost use Rattle.link_frames.specs.Begun.{header_of, left_of, Took, Finishes};
+    ghost use Rattle.link_frames.specs.Begun.{header_of, left_of, Took, Finishes, KeepsNone};
 
     /// A frame with this header, of whose body nothing came yet.
     pub fn new(alloc: Global, header: Header) -> Begun
@@ -38,6 +38,51 @@ impl Begun {
             left: header.length,
             kept,
         }
+    }
+
+    /// A frame with this header, whose body is fed as it comes.
+    pub fn lent(header: Header) -> Begun
+        requires { IsHeader header }
+        ensures header { header_of result ≡ header }
+        ensures left { left_of result ≡ header.length }
+        ensures kept { KeepsNone result }
+    {
+        Begun {
+            header,
+            left: header.length,
+            kept: None,
+        }
+    }
+
+    /// The same frame, of whose body nothing is kept.
+    pub fn forget(self) -> Begun
+        ensures header { header_of result ≡ header_of self }
+        ensures left { left_of result ≡ left_of self }
+        ensures kept { KeepsNone result }
+    {
+        let Begun {
+            header,
+            left,
+            kept: _,
+        } = self;
+        Begun {
+            header,
+            left,
+            kept: None,
+        }
+    }
+
+    /// Lets what it lacks of so many bytes pass by, and answers how many these are.
+    pub fn pass(&mut self, most: usize) -> usize
+        requires { KeepsNone self.old }
+        ensures count { result ≡ min (left_of self.old) most }
+        ensures header { header_of self.new ≡ header_of self.old }
+        ensures left { left_of self.new + result ≡ left_of self.old }
+        ensures kept { KeepsNone self.new }
+    {
+        let n = most.min(self.left as usize);
+        self.left -= n as u32;
+        n
     }
 
     /// Its header.

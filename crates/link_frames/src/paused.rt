@@ -4,6 +4,8 @@ ghost use Rattle.std.specs.Prelude.{◌≡◌, ◌≤◌, ◌+◌, ◌++◌, ◌
 ghost use Rattle.dubbo_header.specs.declared.header.TheConstants.{BODY_LIMIT};
 ghost use Rattle.link_frames.specs.declared.next.Ending.{Ending};
 
+mod fed;
+
 use crate::begun::Begun;
 use crate::head::Head;
 use crate::next::{Ending, Next};
@@ -36,7 +38,7 @@ pub struct Paused {
 impl Paused {
     ghost use Rattle.dubbo_header.specs.Header.{header_bytes};
     ghost use Rattle.link_frames.specs.Begun.{header_of, left_of, Took};
-    ghost use Rattle.link_frames.specs.Paused.{Advances, Holds, HasEnded, held_count};
+    ghost use Rattle.link_frames.specs.Paused.{Advances, Holds, HasEnded, IsBetween, held_count};
     ghost use Rattle.link_frames.specs.Next.{next_of};
     ghost use Rattle.link_frames.specs.Steps.{EndsAt, GoesWith, IsReady, Steps};
 
@@ -44,6 +46,7 @@ impl Paused {
     pub fn new(alloc: Global) -> Result<Paused, OutOfMemory>
         ensures begins { IfOk result (λ paused. Holds paused []) }
         ensures place { IfOk result (λ paused. paused.place ≡ 0) }
+        ensures between { IfOk result (λ paused. IsBetween paused) }
     {
         Ok(Paused {
             alloc,

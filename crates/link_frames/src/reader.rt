@@ -4,7 +4,9 @@ ghost use Rattle.std.specs.Prelude.{◌≡◌, List, ℕ, [], Some, IfOk, IfErr,
 ghost use Rattle.link_frames.specs.declared.next.Ending.{Ending};
 ghost use Rattle.link_frames.specs.Steps.{GoesWith};
 
+use crate::body_sink::BodySink;
 use crate::next::Next;
+use crate::next_with::NextWith;
 use crate::paused::Paused;
 use dubbo_io::Source;
 use std::alloc::Global;
@@ -28,6 +30,7 @@ pub struct FrameReader<S: Source> {
 
 impl<S: Source> FrameReader<S> {
     ghost use Rattle.link_frames.specs.Next.{next_of};
+    ghost use Rattle.link_frames.specs.NextWith.{HoldsFed, StandsFed, StepsFed, TakesAny, with_of};
     ghost use Rattle.link_frames.specs.Paused.{Holds, HasEnded};
     ghost use Rattle.link_frames.specs.Steps.{IsReady, Steps};
 
@@ -36,6 +39,7 @@ impl<S: Source> FrameReader<S> {
         ensures source { IfOk result (λ reader. reader.source ≡ source) }
         ensures begins { IfOk result (λ reader. Holds reader.paused []) }
         ensures place { IfOk result (λ reader. reader.paused.place ≡ 0) }
+        ensures any { IfOk result (λ reader. TakesAny reader.paused) }
         ensures unmade { IfErr result (λ unmade. unmade.source ≡ source) }
     {
         match Paused::new(alloc) {
@@ -76,6 +80,41 @@ impl<S: Source> FrameReader<S> {
     {
         loop {
             if let Some(next) = self.step() {
+                return next;
+            }
+        }
+    }
+
+    /// Reads at most once, and feeds a body what came of it.
+    ///
+    /// `None` comes only where that read gave bytes, and no whole frame came behind it. A step inside a
+    /// body wants `body` as the step before left it.
+    pub fn step_with<B: BodySink>(&mut self, body: &mut B) -> Option<NextWith>
+        requires { StandsFed self.old.paused (B.started body.old) (B.fed body.old) }
+        ensures stands { StandsFed self.new.paused (B.started body.new) (B.fed body.new) }
+        ensures steps { (held : List ℕ) → HoldsFed self.old.paused (B.fed body.old) held
+            → StepsFed (S.state self.old.source) (S.state self.new.source) self.old.paused.place held
+            self.new.paused (B.started body.new) (B.fed body.new) result }
+        ensures ended { (ending : Ending) → HasEnded self.old.paused ending
+            → (result ≡ Some (with_of ending)) × (self.new.paused ≡ self.old.paused) }
+        ensures quiet { IsReady self.old.paused → self.new.source ≡ self.old.source }
+    {
+        self.paused.step_with_on(&mut self.source, body)
+    }
+
+    /// Steps until there is an answer, and feeds a body what comes of it.
+    pub fn next_with<B: BodySink>(&mut self, body: &mut B) -> NextWith
+        requires { StandsFed self.old.paused (B.started body.old) (B.fed body.old) }
+        ensures stands { StandsFed self.new.paused (B.started body.new) (B.fed body.new) }
+        ensures steps { (held : List ℕ) → HoldsFed self.old.paused (B.fed body.old) held
+            → StepsFed (S.state self.old.source) (S.state self.new.source) self.old.paused.place held
+            self.new.paused (B.started body.new) (B.fed body.new) (Some result) }
+        ensures ended { (ending : Ending) → HasEnded self.old.paused ending
+            → (result ≡ with_of ending) × (self.new.paused ≡ self.old.paused)
+            × (self.new.source ≡ self.old.source) }
+    {
+        loop {
+            if let Some(next) = self.step_with(body) {
                 return next;
             }
         }

@@ -1,10 +1,12 @@
 //! What no clause says: that memory which is there is found, and streams as they lie on a wire.
-ghost use Rattle.std.specs.Prelude.{◌≤◌, length};
+ghost use Rattle.std.specs.Prelude.{◌≤◌, length, vec_capacity};
+ghost use Rattle.dubbo_header.specs.declared.header.TheConstants.{BODY_LIMIT};
 ghost use Rattle.dubbo_io.specs.Count.{last_count};
 
-use crate::{Beat, BeatAct, FrameReader, Next, send_frame};
-use dubbo_header::Header;
+use crate::{Beat, BeatAct, BodySink, FrameReader, Next, NextWith, send_frame};
+use dubbo_header::{BODY_LIMIT, Header};
 use dubbo_io::{Got, MemSink, MemSource, Source};
+use std::alloc::{AllocError, Global};
 use std::test::Fail;
 
 /// A question for a heartbeat and its answer, each with the body `N`.
@@ -164,4 +166,101 @@ fn beats_are_a_minute_apart(rt: HostRuntime) {
     assert_eq!(rt; beat.tick(119_999), BeatAct::Nothing);
     assert_eq!(rt; beat.tick(120_000), BeatAct::SendBeat { id: 4_294_967_297 });
     assert_eq!(rt; beat.tick(60_000), BeatAct::Nothing);
+}
+
+/// Keeps the last body that it was fed.
+#[derive(Drop)]
+struct Fed {
+    header: Option<Header>,
+    bytes: Vec<u8>,
+    ghost room: { BODY_LIMIT ≤ vec_capacity bytes },
+}
+
+impl Fed {
+    ghost use Rattle.std.specs.Prelude.{IfOk, ◌≡◌, None};
+
+    fn new(alloc: Global) -> Result<Fed, AllocError>
+        ensures { IfOk result (λ fed. fed.header ≡ None) }
+    {
+        Ok(Fed {
+            header: None,
+            bytes: Vec::with_capacity(alloc, BODY_LIMIT as usize)?,
+        })
+    }
+}
+
+impl BodySink for Fed {
+    ghost started = { λ f. f.header };
+
+    ghost fed = { λ f. f.bytes.items };
+
+    fn start(&mut self, header: &Header) {
+        self.bytes.clear();
+        self.header = Some(*header);
+    }
+
+    fn feed(&mut self, piece: &[u8]) {
+        match self.bytes.extend_from_slice(piece) {
+            Ok(()) => {}
+            Err(_) => unreachable!(),
+        }
+    }
+}
+
+#[test]
+fn bodies_are_fed_in_every_cut_of_two_pieces(rt: HostRuntime) -> Result<(), Fail> {
+    for cut in 0..STREAM.len() {
+        let pieces = Pieces {
+            bytes: STREAM,
+            at: 0,
+            cuts: [cut, cut],
+            ended: false,
+        };
+        let Ok(mut reader) = FrameReader::new(rt.alloc(), pieces) else {
+            assert!(rt; false, "no memory");
+            return Ok(());
+        };
+        let mut fed = Fed::new(rt.alloc())?;
+        let first = reader.next_with(&mut fed);
+        assert_eq!(rt; first, NextWith::Frame { header: QUESTION });
+        assert_eq!(rt; fed.bytes.as_slice(), b"N".as_slice());
+        let second = reader.next_with(&mut fed);
+        assert_eq!(rt; second, NextWith::Frame { header: ANSWER });
+        assert_eq!(rt; fed.bytes.as_slice(), b"N".as_slice());
+        let last = reader.next_with(&mut fed);
+        assert_eq!(rt; last, NextWith::End);
+    }
+    Ok(())
+}
+
+#[test]
+fn a_body_at_the_limit_and_many_small_frames_are_read(rt: HostRuntime) -> Result<(), Fail> {
+    let alloc = rt.alloc();
+    let header = Header {
+        length: BODY_LIMIT,
+        ..QUESTION
+    };
+    let body = vec![in alloc; 0x90; BODY_LIMIT as usize]?;
+    let mut sink = MemSink::new(alloc, BODY_LIMIT as usize + 16, 0, Vec::new(alloc))?;
+    send_frame(&mut sink, &header, &body).map_err(|_| "not sent")?;
+    let mut bytes = sink.bytes().to_vec(alloc)?;
+    for _ in 0..100_000 {
+        bytes.extend_from_slice(&STREAM[..17])?;
+    }
+    assert!(rt; bytes.len() < 1 << 40);
+    let mut reader = FrameReader::new(alloc, MemSource::new(bytes, 0, Vec::new(alloc))).map_err(
+        |_| "no memory",
+    )?;
+    match reader.next() {
+        Next::Frame { header, body } => {
+            assert_eq!(rt; header.length, BODY_LIMIT);
+            assert_eq!(rt; body.as_slice().len(), BODY_LIMIT as usize);
+        }
+        other => assert!(rt; false, "{other:?}"),
+    }
+    for _ in 0..100_000 {
+        assert!(rt; matches!(reader.next(), Next::Frame { .. }));
+    }
+    assert!(rt; matches!(reader.next(), Next::End));
+    Ok(())
 }

@@ -2,6 +2,7 @@
 
 ghost use Rattle.std.specs.Prelude.{◌≡◌, ◌≤◌, ◌-◌, List, ℕ, [], IfOk, length, drop, slice_range, vec_len};
 
+use bytes::BytesMut;
 use dubbo_io::{Got, OutOfMemory, Source};
 use std::alloc::Global;
 use std::marker::Model;
@@ -12,20 +13,20 @@ const ROOM: usize = 16_384;
 /// The last read's bytes from the first that no frame has taken. It is made with all the room that it ever uses.
 #[derive(Drop)]
 pub struct Window {
-    bytes: Vec<u8>,
+    bytes: BytesMut,
     start: usize,
     end: usize,
 }
 
 impl Model for Window {
-    ghost use Rattle.std.specs.Prelude.{◌≡◌, ◌≤◌, List, ℕ, slice_range, vec_len};
+    ghost use Rattle.std.specs.Prelude.{◌≡◌, ◌≤◌, List, ℕ, length, slice_range};
     ghost use Rattle.link_frames.specs.declared.window.TheConstants.{ROOM};
 
     ghost Value = { List ℕ };
 
     ghost view = { λ w. slice_range w.bytes.items w.start w.end };
 
-    ghost invariant = { λ w. (w.start ≤ w.end) × (w.end ≤ ROOM) × (vec_len w.bytes ≡ ROOM) };
+    ghost invariant = { λ w. (w.start ≤ w.end) × (w.end ≤ ROOM) × (length w.bytes.items ≡ ROOM) };
 }
 
 impl Window {
@@ -35,10 +36,8 @@ impl Window {
     pub fn new(alloc: Global) -> Result<Window, OutOfMemory>
         ensures { IfOk result (λ window. window ≡ []) }
     {
-        let mut bytes = Vec::with_capacity(alloc, ROOM)?;
-        bytes.resize(ROOM, 0)?;
         Ok(Window {
-            bytes,
+            bytes: BytesMut::zeroed(alloc, ROOM)?,
             start: 0,
             end: 0,
         })
