@@ -1,0 +1,15 @@
+pub mod Shape
+pub mod Faults
+pub mod Reached
+pub mod Iso
+pub mod Canon
+pub mod InUse
+pub mod Work
+pub mod Tables
+pub mod Moving
+pub mod Reading
+pub mod Spells
+pub mod Line
+pub mod Forms
+pub mod Loose
+pub mod Refusal

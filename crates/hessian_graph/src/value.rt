@@ -1,0 +1,112 @@
+//! Values, and lists of values and of pairs.
+
+ghost use Rattle.std.specs.Prelude.{◌≡◌};
+
+use crate::text::{Chars, Octets};
+use std::marker::Model;
+
+/// A value of a graph.
+#[derive(Drop)]
+pub enum Value {
+    /// The value null.
+    Null,
+    /// A boolean.
+    Bool(bool),
+    /// A number of 32 bits.
+    Int(i32),
+    /// A number of 64 bits.
+    Long(i64),
+    /// A moment, in milliseconds since the first of January 1970 in UTC.
+    Date(i64),
+    /// A text.
+    Text(Chars),
+    /// A list of bytes.
+    Bytes(Octets),
+    /// The node of this number, which counts from 0.
+    Node(u32),
+}
+
+/// A key of a map and its value.
+#[derive(Drop)]
+pub struct Pair {
+    /// The key.
+    pub key: Value,
+    /// The key's value.
+    pub value: Value,
+}
+
+/// A list of values.
+#[derive(Drop)]
+pub struct Items {
+    inner: Vec<Value>,
+}
+
+impl Model for Items {
+    ghost use Rattle.std.specs.Prelude.{List};
+    ghost use Rattle.hessian_graph.specs.declared.value.Value.{Value as Item};
+
+    ghost Value = { List Item };
+
+    ghost view = { λ a. a.inner.items };
+}
+
+impl Items {
+    /// The values of this vector.
+    pub fn from(inner: Vec<Value>) -> Items
+        ensures { result ≡ inner.items }
+    {
+        Items { inner }
+    }
+
+    /// The values as a slice.
+    pub fn as_slice(&self) -> &[Value]
+        ensures { result.now ≡ self.now }
+    {
+        self.inner.as_slice()
+    }
+
+    /// The vector that was handed in.
+    pub fn into_inner(self) -> Vec<Value>
+        ensures { result.items ≡ self }
+    {
+        self.inner
+    }
+}
+
+/// The pairs of a map, in order, repeats included.
+#[derive(Drop)]
+pub struct Pairs {
+    inner: Vec<Pair>,
+}
+
+impl Model for Pairs {
+    ghost use Rattle.std.specs.Prelude.{List};
+    ghost use Rattle.hessian_graph.specs.declared.value.Pair.{Pair as Entry};
+
+    ghost Value = { List Entry };
+
+    ghost view = { λ a. a.inner.items };
+}
+
+impl Pairs {
+    /// The pairs of this vector.
+    pub fn from(inner: Vec<Pair>) -> Pairs
+        ensures { result ≡ inner.items }
+    {
+        Pairs { inner }
+    }
+
+    /// The pairs as a slice.
+    pub fn as_slice(&self) -> &[Pair]
+        ensures { result.now ≡ self.now }
+    {
+        self.inner.as_slice()
+    }
+
+    /// The vector that was handed in.
+    pub fn into_inner(self) -> Vec<Pair>
+        ensures { result.items ≡ self }
+    {
+        self.inner
+    }
+}
