@@ -1,16 +1,18 @@
 -- A frame that stands at a place, taken apart.
-use Rattle.std.proofs.Common.{◌≡◌, ℕ, zero, suc, ◌+◌, ◌<◌, ◌≤◌, ℤ, pos, List, [], ◌∷◌, ◌++◌, length, take, drop, Option, Some, refl, ap, subst, ◌∙◌, append_assoc, length-append, lit<, arith}
+use Rattle.std.proofs.Common.{◌≡◌, ℕ, zero, suc, ◌+◌, ◌*◌, ◌<◌, ◌≤◌, ℤ, pos, List, [], ◌∷◌, ◌++◌, length, take, drop, Option, Some, refl, ap, subst, ◌∙◌, append_assoc, length-append, lit<, arith}
 use Rattle.std.proofs.Math.Seq.{take-append_seam}
-use Rattle.std.proofs.lemmas.List.Concat.{length-flat_map}
+use Rattle.std.specs.List.{All}
 use Rattle.dubbo_header.specs.declared.header.Header.{Header}
 use Rattle.dubbo_header.specs.Header.{IsHeader, header_bytes}
 use Rattle.dubbo_header.proofs.HeaderLemmas.{length-header_bytes}
 use Rattle.hessian_scalars.specs.declared.scalar.Scalar.TheVariants as scalars
 use Rattle.hessian_scalars.specs.Read.{IsSpelledAt}
 use Rattle.hessian_scalars.specs.ScalarSpelling.ScalarSpelling.{int_in_code}
-use Rattle.dubbo_play.specs.FirstFrames.{short_text, short_texts, short_map, names, attachments, AreShort, IsRequestBody, IsReplyBody, request_header, reply_header}
+use Rattle.dubbo_play.specs.FirstFrames.{WrittenTexts, IsTextMap, names, attachments, IsRequestBody, IsReplyBody, request_header, reply_header}
+use Rattle.dubbo_play.specs.FirstFrames.WrittenTexts.{none, more}
 use Rattle.dubbo_play.specs.FirstRun.{RequestAt, ReplyAt}
 use Rattle.dubbo_play.specs.declared.first_frames.Found.{Found}
+use Rattle.dubbo_play.proofs.Texts.{text_short_written}
 use Rattle.dubbo_play.proofs.Places.{behind, reaches, spelled_at, spelling_short}
 
 pub some_is : {A : Type 0} (x y : A) → Some x ≡ Some y → x ≡ y
@@ -28,20 +30,41 @@ found_same a b v w m n p q r = cc
 
 -- ---- how long a body is
 
-names_short : (path method : List ℕ) → length path ≤ 31 → length method ≤ 31 → length (short_texts (names path method)) ≤ 90
-names_short path method p m = omega (arith, length-flat_map short_text (names path method))
+texts_short : (texts : List (List ℕ)) (written : List ℕ) → All (λ text. length text ≤ 255) texts → WrittenTexts texts written → length written ≤ 1022 * length texts
+texts_short texts written fit none = omega arith
+texts_short texts written fit (more text others first later w ws) =
+    omega (arith, text_short_written text first (fit 0 text (omega arith)) w, texts_short others later (λ k d l. fit (suc k) d (omega arith)) ws, length-append first later)
 
-attachments_short : (path : List ℕ) → length path ≤ 31 → length (short_map (attachments path)) ≤ 103
-attachments_short path p = omega (arith, length-append (short_texts (attachments path)) (0x5a ∷ []), length-flat_map short_text (attachments path))
+names_fit : (path method : List ℕ) → length path ≤ 255 → length method ≤ 255 → All (λ text. length text ≤ 255) (names path method)
+names_fit path method p m zero d l = omega arith
+names_fit path method p m (suc zero) d l = p
+names_fit path method p m (suc (suc zero)) d l = omega arith
+names_fit path method p m (suc (suc (suc zero))) d l = m
+names_fit path method p m (suc (suc (suc (suc zero)))) d l = omega arith
+names_fit path method p m (suc (suc (suc (suc (suc k))))) d l = absurd (omega arith)
 
-sum_short : (body a b c : List ℕ) → body ≡ a ++ (b ++ c) → length a ≤ 90 → length b ≤ 9 → length c ≤ 103 → length body ≤ 300
+attachments_fit : (path : List ℕ) → length path ≤ 255 → All (λ text. length text ≤ 255) (attachments path)
+attachments_fit path p zero d l = omega arith
+attachments_fit path p (suc zero) d l = p
+attachments_fit path p (suc (suc zero)) d l = omega arith
+attachments_fit path p (suc (suc (suc zero))) d l = p
+attachments_fit path p (suc (suc (suc (suc zero)))) d l = omega arith
+attachments_fit path p (suc (suc (suc (suc (suc zero))))) d l = omega arith
+attachments_fit path p (suc (suc (suc (suc (suc (suc zero)))))) d l = omega arith
+attachments_fit path p (suc (suc (suc (suc (suc (suc (suc zero))))))) d l = omega arith
+attachments_fit path p (suc (suc (suc (suc (suc (suc (suc (suc k)))))))) d l = absurd (omega arith)
+
+map_short : (texts : List (List ℕ)) (bytes : List ℕ) → All (λ text. length text ≤ 255) texts → IsTextMap texts bytes → length bytes ≤ 1022 * length texts + 2
+map_short texts bytes fit m = omega (arith, ap length m.bytes_are, length-append m.entries (0x5a ∷ []), texts_short texts m.entries fit m.written)
+
+sum_short : (body a b c : List ℕ) → body ≡ a ++ (b ++ c) → length a ≤ 5110 → length b ≤ 9 → length c ≤ 8178 → length body ≤ 20000
 sum_short body a b c e x y z = omega (arith, ap length e, length-append a (b ++ c), length-append b c)
 
-pub request_body_short : (path method : List ℕ) (argument : ℤ) (body : List ℕ) → length path ≤ 31 → length method ≤ 31 →
-    IsRequestBody path method argument body → length body ≤ 300
+pub request_body_short : (path method : List ℕ) (argument : ℤ) (body : List ℕ) → length path ≤ 255 → length method ≤ 255 →
+    IsRequestBody path method argument body → length body ≤ 20000
 request_body_short path method argument body p m b =
-    sum_short body (short_texts (names path method)) b.spelling (short_map (attachments path)) b.bytes
-    (names_short path method p m) (spelling_short (scalars.Int argument) b.spelling b.shortest.spells) (attachments_short path p)
+    sum_short body b.front b.spelling b.back b.bytes (texts_short (names path method) b.front (names_fit path method p m) b.named)
+    (spelling_short (scalars.Int argument) b.spelling b.shortest.spells) (map_short (attachments path) b.back (attachments_fit path p) b.attached)
 
 pub reply_body_short : (value : ℤ) (body : List ℕ) → IsReplyBody value body → length body ≤ 10
 reply_body_short value body b =
@@ -84,27 +107,17 @@ pub record RequestParts (bytes : List ℕ) (at id : ℕ) (argument : ℤ) (end :
   pub rest : List ℕ
   pub path : List ℕ
   pub method : List ℕ
+  pub front : List ℕ
   pub after : List ℕ
-  pub place : ℕ
   pub int_end : ℕ
   pub header : IsHeader (request_header id (length body))
   pub apart : Apart bytes at end (request_header id (length body)) body rest
-  pub names_ahead : drop (at + 16) bytes ≡ short_texts (names path method) ++ after
-  pub names_fit : AreShort (names path method)
-  pub behind_names : place ≡ at + 16 + length (short_texts (names path method))
-  pub argument_at : IsSpelledAt bytes place (scalars.Int argument) int_end
+  pub named : WrittenTexts (names path method) front
+  pub names_ahead : drop (at + 16) bytes ≡ front ++ after
+  pub argument_at : IsSpelledAt bytes (at + 16 + length front) (scalars.Int argument) int_end
 
-fits_each : (path method : List ℕ) → length path ≤ 31 → length method ≤ 31 → AreShort (names path method)
-fits_each path method p m zero d l = omega arith
-fits_each path method p m (suc zero) d l = p
-fits_each path method p m (suc (suc zero)) d l = omega arith
-fits_each path method p m (suc (suc (suc zero))) d l = m
-fits_each path method p m (suc (suc (suc (suc zero)))) d l = omega arith
-fits_each path method p m (suc (suc (suc (suc (suc k))))) d l = absurd (omega arith)
-
-argument_in : (bytes a b c body rest : List ℕ) (at : ℕ) (argument : ℤ) → at ≤ length bytes → drop at bytes ≡ body ++ rest → body ≡ a ++ (b ++ c) →
-    drop at bytes ≡ a ++ ((b ++ c) ++ rest)
-argument_in bytes a b c body rest at argument l d e = d ∙ ap (λ (x : List ℕ). x ++ rest) e ∙ append_assoc a (b ++ c) rest
+argument_in : (bytes a b c body rest : List ℕ) (at : ℕ) → drop at bytes ≡ body ++ rest → body ≡ a ++ (b ++ c) → drop at bytes ≡ a ++ ((b ++ c) ++ rest)
+argument_in bytes a b c body rest at d e = d ∙ ap (λ (x : List ℕ). x ++ rest) e ∙ append_assoc a (b ++ c) rest
 
 pub request_parts : (bytes : List ℕ) (at id : ℕ) (argument : ℤ) (end : ℕ) → at ≤ length bytes → RequestAt bytes at id argument end →
     RequestParts bytes at id argument end
@@ -113,26 +126,24 @@ request_parts bytes at id argument end l s =
     let b = r.says in
     let head : Header = request_header id (length r.body) in
     let all : Apart bytes at end head r.body s.rest = apart bytes s.frame r.body s.rest at end head l r.bytes s.stands s.ends in
-    let n : List ℕ = short_texts (names s.path s.method) in
-    let m : List ℕ = short_map (attachments s.path) in
-    let ahead : drop (at + 16) bytes ≡ n ++ ((b.spelling ++ m) ++ s.rest) = argument_in bytes n b.spelling m r.body s.rest (at + 16) argument all.begins all.body_ahead b.bytes in
-    let place : at + 16 + length n ≤ length bytes = reaches bytes n ((b.spelling ++ m) ++ s.rest) (at + 16) all.begins ahead in
-    let int_ahead : drop (at + 16 + length n) bytes ≡ b.spelling ++ (m ++ s.rest) = behind bytes n ((b.spelling ++ m) ++ s.rest) (at + 16) ahead ∙ append_assoc b.spelling m s.rest in
-    let short : length r.body ≤ 300 = request_body_short s.path s.method argument r.body s.short_path s.short_method b in
+    let ahead : drop (at + 16) bytes ≡ b.front ++ ((b.spelling ++ b.back) ++ s.rest) = argument_in bytes b.front b.spelling b.back r.body s.rest (at + 16) all.body_ahead b.bytes in
+    let place : at + 16 + length b.front ≤ length bytes = reaches bytes b.front ((b.spelling ++ b.back) ++ s.rest) (at + 16) all.begins ahead in
+    let int_ahead : drop (at + 16 + length b.front) bytes ≡ b.spelling ++ (b.back ++ s.rest) =
+    behind bytes b.front ((b.spelling ++ b.back) ++ s.rest) (at + 16) ahead ∙ append_assoc b.spelling b.back s.rest in
+    let short : length r.body ≤ 20000 = request_body_short s.path s.method argument r.body s.short_path s.short_method b in
     record {
       body = r.body;
       rest = s.rest;
       path = s.path;
       method = s.method;
-      after = (b.spelling ++ m) ++ s.rest;
-      place = at + 16 + length n;
-      int_end = at + 16 + length n + length b.spelling;
+      front = b.front;
+      after = (b.spelling ++ b.back) ++ s.rest;
+      int_end = at + 16 + length b.front + length b.spelling;
       header = record { serial = lit< tt; status = lit< tt; id = s.fits; length = omega arith };
       apart = all;
+      named = b.named;
       names_ahead = ahead;
-      names_fit = fits_each s.path s.method s.short_path s.short_method;
-      behind_names = refl;
-      argument_at = spelled_at bytes b.spelling (m ++ s.rest) (at + 16 + length n) (scalars.Int argument) place int_ahead b.shortest.spells;
+      argument_at = spelled_at bytes b.spelling (b.back ++ s.rest) (at + 16 + length b.front) (scalars.Int argument) place int_ahead b.shortest.spells;
     }
 
 -- ---- a reply

@@ -11,3 +11,4 @@ pub mod Frames
 pub mod Joins
 pub mod Runs
 pub mod Provided
+pub mod Texts

@@ -1,8 +1,10 @@
 -- The words of a line and what follows them are determined by its bytes.
-use Rattle.std.proofs.Common.{◌≡◌, ◌≢◌, ℕ, List, ◌∷◌, ◌++◌, get_or, sym, ap, ◌∙◌, arith, append_assoc, codes}
+use Rattle.std.proofs.Common.{◌≡◌, ◌≢◌, ℕ, List, ◌∷◌, ◌++◌, length, get_or, IsUtf8, inl, inr, sym, ap, ◌∙◌, arith, append_assoc, codes}
 use Rattle.std.specs.Int.{IsInRange}
 use Rattle.std.specs.List.{All}
-use Rattle.std.proofs.lemmas.List.{append_cancel_left}
+use Rattle.std.proofs.lemmas.Bool.{cases_lt}
+use Rattle.std.proofs.lemmas.List.{append_cancel_left, get_or_past}
+use Rattle.std.proofs.lemmas.Str.{IsUtf8-from_ascii}
 use Rattle.dubbo_play.proofs.Cuts.{cut_once}
 use Rattle.dubbo_play.specs.FirstForm.{IsWord, target_text}
 
@@ -11,6 +13,13 @@ pub unspaced : (word : List ℕ) → IsWord word → All (λ byte. byte ≢ 32) 
 unspaced word is = λ k d within same.
     let shown : IsInRange 0x21 0x7e (get_or word k d) = is.shown k d within in
     omega (arith, shown.0, same)
+
+-- a word is a text
+pub word_is_text : (word : List ℕ) → IsWord word → IsUtf8 word
+word_is_text word is = IsUtf8-from_ascii word (λ i. elim (cases_lt i (length word)) [
+  | inl within ↦ (let shown : IsInRange 0x21 0x7e (get_or word i 0) = is.shown i 0 within in omega (arith, shown.1))
+  | inr past ↦ rw (get_or_past word i 0 past) (omega arith)
+])
 
 -- two words that end at a space are the same
 pub word_once : (word word' rest rest' : List ℕ) → IsWord word → IsWord word' → word ++ 32 ∷ rest ≡ word' ++ 32 ∷ rest'

@@ -11,10 +11,10 @@ pub record Call : Type 0 where
   pub method : List ℕ
   pub argument : ℤ
 
--- a path or a method: 1 to 31 bytes, each from x21 to x7e
+-- a path or a method: 1 to 255 bytes, each from x21 to x7e
 pub record IsWord (bytes : List ℕ) : Type 0 where
   pub begun : 1 ≤ length bytes
-  pub short : length bytes ≤ 31
+  pub short : length bytes ≤ 255
   pub shown : All (IsInRange 0x21 0x7e) bytes
 
 -- a call that a line can name

@@ -1,23 +1,17 @@
 -- The two frames of a call of the first form, and the frames of all calls joined in order.
-use Rattle.std.specs.Prelude.{◌≡◌, ℕ, suc, ◌*◌, ◌≤◌, ℤ, true, false, List, [], ◌∷◌, ◌++◌, length, codes}
-use Rattle.std.specs.List.{All, flat_map}
+use Rattle.std.specs.Prelude.{◌≡◌, ℕ, suc, ◌*◌, ℤ, true, false, List, [], ◌∷◌, ◌++◌, length, codes}
 use Rattle.dubbo_header.specs.Header.{header_bytes}
 use Rattle.dubbo_header.specs.declared.header.Header.{Header}
 use Rattle.hessian_scalars.specs.Written.{IsShortest}
 use Rattle.hessian_scalars.specs.declared.scalar.Scalar.TheVariants as scalars
+use Rattle.hessian_text.specs.Written.{WrittenText}
 use Rattle.dubbo_play.specs.FirstForm.{Call}
 
--- a text of at most 31 characters of ASCII: a byte that says how many, and the characters
-abbrev pub short_text : List ℕ → List ℕ
-short_text characters = length characters ∷ characters
-
--- texts that are short
-abbrev pub AreShort : List (List ℕ) → Type 0
-AreShort texts = All (λ text. length text ≤ 31) texts
-
--- short texts one behind the other
-abbrev pub short_texts : List (List ℕ) → List ℕ
-short_texts texts = flat_map short_text texts
+-- texts one behind the other, each in the writer's spelling
+pub data WrittenTexts : List (List ℕ) → List ℕ → Type 0 where
+  none : WrittenTexts [] []
+  more : (text : List ℕ) (texts : List (List ℕ)) (written rest : List ℕ)
+      → WrittenText text written → WrittenTexts texts rest → WrittenTexts (text ∷ texts) (written ++ rest)
 
 -- what a request names before its argument: Dubbo's version, the path, the service's version, which is
 -- empty, the method and the types of the parameters
@@ -29,15 +23,21 @@ abbrev pub attachments : List ℕ → List (List ℕ)
 attachments path =
     codes "path" ∷ path ∷ codes "interface" ∷ path ∷ codes "version" ∷ [] ∷ codes "timeout" ∷ codes "1000" ∷ []
 
--- an untyped map of short texts, between its code and its end
-abbrev pub short_map : List (List ℕ) → List ℕ
-short_map texts = 0x48 ∷ short_texts texts ++ 0x5a ∷ []
+-- an untyped map of texts, between its code and its end
+pub record IsTextMap (texts : List (List ℕ)) (bytes : List ℕ) : Type 0 where
+  pub entries : List ℕ
+  pub written : WrittenTexts texts entries
+  pub bytes_are : bytes ≡ 0x48 ∷ entries ++ 0x5a ∷ []
 
 -- the body asks for a call of this method with this argument, which is in the writer's spelling
 pub record IsRequestBody (path method : List ℕ) (argument : ℤ) (body : List ℕ) : Type 0 where
+  pub front : List ℕ
   pub spelling : List ℕ
+  pub back : List ℕ
+  pub named : WrittenTexts (names path method) front
   pub shortest : IsShortest (scalars.Int argument) spelling
-  pub bytes : body ≡ short_texts (names path method) ++ (spelling ++ short_map (attachments path))
+  pub attached : IsTextMap (attachments path) back
+  pub bytes : body ≡ front ++ (spelling ++ back)
 
 -- the body answers with this value, in the writer's spelling: before it the int 1 says that a value follows
 pub record IsReplyBody (value : ℤ) (body : List ℕ) : Type 0 where

@@ -63,7 +63,7 @@ fn answer_all(alloc: Global, asks: &[u8], answers: &mut Vec<u8>) -> Result<(), O
     ensures err { OnErr result (Grows answers.old.items answers.new.items) }
 {
     let mut at = 0;
-    while let Some(request) = read_request(asks, at) {
+    while let Some(request) = read_request(alloc, asks, at)? {
         write_reply(alloc, answers, request.id, request.value)?;
         at = request.end;
     }

@@ -31,48 +31,44 @@ pub enum FirstFault {
 /// One call of a script: a service's path and method, and the int that is sent.
 #[derive(Drop)]
 pub struct FirstCall {
-    path: Vec<u8>,
-    method: Vec<u8>,
+    path: String,
+    method: String,
     argument: i32,
 }
 
 impl Model for FirstCall {
+    ghost use Rattle.std.specs.Prelude.{string_bytes};
     ghost use Rattle.dubbo_play.specs.FirstForm.{Call};
 
     ghost Value = { Call };
 
-    ghost view = { λ c. record { path = c.path.items; method = c.method.items; argument = c.argument } };
+    ghost view = { λ c. record { path = string_bytes c.path; method = string_bytes c.method; argument = c.argument } };
 }
 
 impl FirstCall {
-    fn new(
-        alloc: Global,
-        path: &[u8],
-        method: &[u8],
-        argument: i32,
-    ) -> Result<FirstCall, AllocError>
+    fn new(alloc: Global, path: &str, method: &str, argument: i32) -> Result<FirstCall, AllocError>
         ensures { IfOk result (λ call.
             call ≡ record { path = path.now; method = method.now; argument = argument }) }
     {
         Ok(FirstCall {
-            path: Vec::from_slice(alloc, path)?,
-            method: Vec::from_slice(alloc, method)?,
+            path: String::from_str(alloc, path)?,
+            method: String::from_str(alloc, method)?,
             argument,
         })
     }
 
-    /// The path of the service, 1 to 31 bytes from x21 to x7e.
-    pub fn path(&self) -> &[u8]
+    /// The path of the service, 1 to 255 bytes from x21 to x7e.
+    pub fn path(&self) -> &str
         ensures { result.now ≡ self.now.path }
     {
-        &self.path
+        self.path.as_str()
     }
 
-    /// The method of the service, 1 to 31 bytes from x21 to x7e.
-    pub fn method(&self) -> &[u8]
+    /// The method of the service, 1 to 255 bytes from x21 to x7e.
+    pub fn method(&self) -> &str
         ensures { result.now ≡ self.now.method }
     {
-        &self.method
+        self.method.as_str()
     }
 
     /// The int that the call sends.

@@ -76,3 +76,19 @@ fn each_line_has_the_argument_of_its_own_call(rt: HostRuntime) -> Result<(), Fai
     );
     Ok(())
 }
+
+#[test]
+fn a_path_of_forty_bytes_has_a_head_of_two(rt: HostRuntime) -> Result<(), Fail> {
+    let text =
+        b"service org.apache.dubbo.samples.api.GreetingSrv - m Ljava/lang/Object; echo\ncall failover - - - org.apache.dubbo.samples.api.GreetingSrv - m Ljava/lang/Object; 7\n";
+    let run = run_behind(rt.alloc(), b"".as_slice(), text.as_slice())?;
+    assert_eq!(rt;
+        run.asks.as_slice(),
+        b"\xda\xbb\xc2\x00\x00\x00\x00\x00\x00\x00\x00\x00\x00\x00\x00\xc2\x052.0.2\x30\x28org.apache.dubbo.samples.api.GreetingSrv\x00\x01m\x12Ljava/lang/Object;\x97H\x04path\x30\x28org.apache.dubbo.samples.api.GreetingSrv\x09interface\x30\x28org.apache.dubbo.samples.api.GreetingSrv\x07version\x00\x07timeout\x041000Z".as_slice()
+    );
+    assert_eq!(rt;
+        run.printed.as_slice(),
+        b"0 ok 7\ncalls 1 attempts 1\n".as_slice()
+    );
+    Ok(())
+}

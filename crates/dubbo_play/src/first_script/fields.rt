@@ -12,7 +12,7 @@ use itoa::Buffer;
 use std::str;
 
 /// The most bytes that a path or a method may have.
-const WORD_LIMIT: usize = 31;
+const WORD_LIMIT: usize = 255;
 
 /// What a line says, by its fields.
 pub enum Fields<'a> {
@@ -20,13 +20,13 @@ pub enum Fields<'a> {
     Nothing,
     /// The line names a service.
     Service {
-        path: &'a [u8],
-        method: &'a [u8],
+        path: &'a str,
+        method: &'a str,
     },
     /// The line names a call and the int that it sends.
     Call {
-        path: &'a [u8],
-        method: &'a [u8],
+        path: &'a str,
+        method: &'a str,
         argument: i32,
     },
 }
@@ -52,7 +52,7 @@ pub fn line_fields(line: &[u8]) -> Option<Fields<'_>>
 }
 
 /// The path and the method of a service line.
-fn service(line: &[u8]) -> Option<(&[u8], &[u8])>
+fn service(line: &[u8]) -> Option<(&str, &str)>
     ensures { MatchOption result
         ((p m : List ℕ) → IsWord p → IsWord m → line.now ≢ service_line p m)
         (λ r. IsWord r.0.now × IsWord r.1.now × (line.now ≡ service_line r.0.now r.1.now)) }
@@ -66,7 +66,7 @@ fn service(line: &[u8]) -> Option<(&[u8], &[u8])>
 }
 
 /// The path, the method and the int of a call line.
-fn call(line: &[u8]) -> Option<(&[u8], &[u8], i32)>
+fn call(line: &[u8]) -> Option<(&str, &str, i32)>
     ensures { MatchOption result ((c : Call) → IsCall c → line.now ≢ call_line c)
         (λ r. let c : Call = record { path = r.0.now; method = r.1.now; argument = r.2 } in
         IsCall c × (line.now ≡ call_line c)) }
@@ -77,7 +77,7 @@ fn call(line: &[u8]) -> Option<(&[u8], &[u8], i32)>
 }
 
 /// The path and the method that stand at the front, and what follows their target.
-fn target(bytes: &[u8]) -> Option<(&[u8], &[u8], &[u8])>
+fn target(bytes: &[u8]) -> Option<(&str, &str, &[u8])>
     ensures { MatchOption result
         ((p m rest : List ℕ) → IsWord p → IsWord m → bytes.now ≢ target_text p m ++ rest)
         (λ r. IsWord r.0.now × IsWord r.1.now
@@ -90,15 +90,17 @@ fn target(bytes: &[u8]) -> Option<(&[u8], &[u8], &[u8])>
 }
 
 /// The word at the front, which ends at the first space, and what follows that space.
-fn word(bytes: &[u8]) -> Option<(&[u8], &[u8])>
+fn word(bytes: &[u8]) -> Option<(&str, &[u8])>
     ensures { MatchOption result ((w rest : List ℕ) → IsWord w → bytes.now ≢ w ++ 0x20 ∷ rest)
         (λ r. IsWord r.0.now × (bytes.now ≡ r.0.now ++ 0x20 ∷ r.1.now)) }
 {
     let (word, rest) = cut_at(bytes, b' ')?;
-    if is_word(word) {
-        Some((word, rest))
-    } else {
-        None
+    if !is_word(word) {
+        return None;
+    }
+    match str::from_utf8(word) {
+        Ok(word) => Some((word, rest)),
+        Err(_) => None,
     }
 }
 

@@ -67,13 +67,13 @@ pub fn take_line(
 }
 
 /// The line that names a service.
-fn service_text(alloc: Global, path: &[u8], method: &[u8]) -> Result<Vec<u8>, AllocError>
+fn service_text(alloc: Global, path: &str, method: &str) -> Result<Vec<u8>, AllocError>
     ensures { IfOk result (λ text. text.items ≡ service_line path.now method.now) }
 {
     let mut text = Vec::from_slice(alloc, b"service ")?;
-    text.extend_from_slice(path)?;
+    text.extend_from_slice(path.as_bytes())?;
     text.extend_from_slice(b" - ")?;
-    text.extend_from_slice(method)?;
+    text.extend_from_slice(method.as_bytes())?;
     text.extend_from_slice(b" Ljava/lang/Object; echo")?;
     Ok(text)
 }

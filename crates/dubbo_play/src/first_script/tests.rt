@@ -11,8 +11,8 @@ fn a_service_and_a_call_are_a_script(rt: HostRuntime) -> Result<(), Fail> {
         Ok(script) => {
             let calls = script.calls();
             assert_eq!(rt; calls.len(), 1);
-            assert_eq!(rt; calls[0].path(), b"demo.S".as_slice());
-            assert_eq!(rt; calls[0].method(), b"echo".as_slice());
+            assert_eq!(rt; calls[0].path(), "demo.S");
+            assert_eq!(rt; calls[0].method(), "echo");
             assert_eq!(rt; calls[0].argument(), -7);
         }
         Err(fault) => assert!(rt; false, "{fault}"),
@@ -37,7 +37,7 @@ fn other_lines_are_refused_where_they_stand(rt: HostRuntime) {
         ),
         (b"#\n\nservice demo.S - echo Ljava/lang/Object; echo \n", 3),
         (
-            b"service 12345678901234567890123456789012 - m Ljava/lang/Object; echo",
+            b"service wwwwwwwwwwwwwwwwwwwwwwwwwwwwwwwwwwwwwwwwwwwwwwwwwwwwwwwwwwwwwwwwwwwwwwwwwwwwwwwwwwwwwwwwwwwwwwwwwwwwwwwwwwwwwwwwwwwwwwwwwwwwwwwwwwwwwwwwwwwwwwwwwwwwwwwwwwwwwwwwwwwwwwwwwwwwwwwwwwwwwwwwwwwwwwwwwwwwwwwwwwwwwwwwwwwwwwwwwwwwwwwwwwwwwwwwwwwwwwwwwwwwwwwwwwwwwwww - m Ljava/lang/Object; echo",
             1,
         ),
         (

@@ -1,0 +1,15 @@
+pub mod Shapes
+pub mod ItemSteps
+pub mod Characters
+pub mod Stages
+pub mod Keeping
+pub mod Running
+pub mod Came
+pub mod Advancing
+pub mod Answering
+pub mod Writings
+pub mod Exactly
+pub mod ReadBack
+pub mod TextBack
+pub mod Passing
+pub mod OneAnswer

@@ -1,0 +1,11 @@
+pub mod ChunkHead
+pub mod Items
+pub mod Spelling
+pub mod Refusal
+pub mod Written
+pub mod Residual
+pub mod Steps
+pub mod Sound
+pub mod Ascii
+pub mod Reader
+pub mod Answer
