@@ -9,3 +9,9 @@ pub mod Beside
 pub mod Accounts
 pub mod PlainSlots
 pub mod PlainTables
+pub mod SharedViews
+pub mod SharedRule
+pub mod SharedPlays
+pub mod Seats
+pub mod Scans
+pub mod Cutting

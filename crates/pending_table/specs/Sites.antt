@@ -17,3 +17,7 @@ pub record Site (K : Type 0) : Type 0 where
 -- a desk or a window of a table that one thread borrows
 abbrev pub lent_site : {K : Type 0} → GName → K → ℕ → ℕ → Site K
 lent_site borrow key slots number = record { place = lent borrow; key = key; slots = slots; number = number }
+
+-- a desk or a window of a table that threads share
+abbrev pub shared_site : {K : Type 0} → TableId → K → ℕ → ℕ → Site K
+shared_site table key slots number = record { place = shared table; key = key; slots = slots; number = number }

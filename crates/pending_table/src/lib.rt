@@ -8,6 +8,7 @@ mod answers;
 mod fitting;
 mod logs;
 mod plain;
+mod shared;
 mod sides;
 #[cfg(test)]
 mod tests;
@@ -18,6 +19,7 @@ pub use answers::{Abandoned, Look, Offered, Taken};
 pub use fitting::{Fits, Tag};
 pub use logs::{Claim, DeskLog, End, Ended, Opened, Reads, Sight, WindowLog};
 pub use plain::{PlainDesk, PlainTable, PlainWindow};
+pub use shared::{DeskPart, SharedDesk, SharedWindow, TableKey, View, WindowPart};
 pub use sides::{Desk, Window};
 pub use std::alloc::AllocError as OutOfMemory;
 pub use word::SlotState;

@@ -1,0 +1,9 @@
+use Rattle.std.proofs.Common.{◌<◌, arith}
+use Rattle.pending_table.proofs.SharedAllows.{next_at}
+use Rattle.pending_table.proofs.shared.window_steps.load_next.Goals as goal
+
+pub load-requires : goal.load-requires
+load-requires g c =
+    let table = c.requires.seated in
+    let inside : c.args.slot < c.args.words.now.table_id.words = let words = table.1 in let low = c.requires.inside in omega arith in
+    (table.0, inside, next_at g.R.Meaning.fits c.args.words.now.key.key.value c.args.words.now.key.slots _ _ c.args.seat.now.me c.requires.window c.args.slot c.requires.inside)

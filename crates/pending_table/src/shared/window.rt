@@ -1,0 +1,49 @@
+//! A window of a table that threads share.
+ghost use Rattle.std.specs.Prelude.{◌≡◌, ℕ, ◌<◌, None, []};
+ghost use Rattle.pending_table.specs.Seats.{IsSeated, IsWindowOf};
+ghost use Rattle.pending_table.specs.SharedPlays.{the_window};
+
+use crate::shared::{PartSeat, Words, window_calls};
+use crate::{Fits, Offered, Taken, Window};
+
+/// A window. It has a seat at the table of its own.
+pub struct SharedWindow<'a, R: Fits> {
+    words: &'a Words<R>,
+    seat: PartSeat<R>,
+    slots: u32,
+    ghost seated: { IsSeated words.now.table_id words.now.key.slots seat.table_id },
+    ghost sized: { (words.now.key.slots ≡ slots) × (words.now.table_id.slots ≡ slots) × (0 < slots) },
+    ghost view_is: { IsWindowOf words.now.key.key.value seat.me.0 },
+    ghost bare: { seat.me.1 ≡ [] },
+    ghost idle: { (the_window seat.me.0).giving ≡ None },
+}
+
+impl<'a, R: Fits> Window<R> for SharedWindow<'a, R> {
+    ghost use Rattle.pending_table.specs.Beside.{untold};
+    ghost use Rattle.pending_table.specs.Sites.{shared_site};
+    ghost use Rattle.pending_table.specs.Taken.{IsOfferable};
+    ghost use Rattle.pending_table.specs.WindowAnswers.{Offers};
+
+    ghost site = { λ w. shared_site w.words.now.table_id w.words.now.key.key.value w.words.now.key.slots (the_window w.seat.me.0).number };
+
+    ghost log = { λ w. (the_window w.seat.me.0).log };
+
+    ghost beside = { λ w. untold };
+
+    fn offer(&mut self, id: u64, given: Taken<R>) -> Offered<R>
+        requires fits { IsOfferable R.fits self.old.words.now.key.key.value id given }
+        ensures words { self.new.words ≡ self.old.words }
+        ensures number { (the_window self.new.seat.me.0).number ≡ (the_window self.old.seat.me.0).number }
+        ensures answer { Offers self.old.words.now.key.slots id given (the_window self.old.seat.me.0).log result (the_window self.new.seat.me.0).log }
+    {
+        window_calls::offer(self.words, &mut self.seat, self.slots, id, given)
+    }
+
+    fn expire(&mut self, now: u64) {
+        window_calls::expire(self.words, &mut self.seat, self.slots, now);
+    }
+
+    fn lose(&mut self, number: u64) {
+        window_calls::lose(self.words, &mut self.seat, self.slots, number);
+    }
+}
