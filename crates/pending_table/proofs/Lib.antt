@@ -21,3 +21,4 @@ pub mod SharedAnswers
 pub mod SharedCalls
 pub mod SharedScans
 pub mod SharedCutting
+pub mod SharedZeros

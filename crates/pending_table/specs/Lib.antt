@@ -15,3 +15,4 @@ pub mod SharedPlays
 pub mod Seats
 pub mod Scans
 pub mod Cutting
+pub mod NewSeats

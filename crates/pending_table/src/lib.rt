@@ -19,7 +19,10 @@ pub use answers::{Abandoned, Look, Offered, Taken};
 pub use fitting::{Fits, Tag};
 pub use logs::{Claim, DeskLog, End, Ended, Opened, Reads, Sight, WindowLog};
 pub use plain::{PlainDesk, PlainTable, PlainWindow};
-pub use shared::{DeskPart, SharedDesk, SharedWindow, TableKey, View, WindowPart};
+pub use shared::{
+    DeskPart, DeskSeat, SharedDesk, SharedTable, SharedWindow, TableKey, View, WindowPart,
+    WindowSeat,
+};
 pub use sides::{Desk, Window};
 pub use std::alloc::AllocError as OutOfMemory;
 pub use word::SlotState;

@@ -7,6 +7,8 @@ mod meaning;
 mod parts;
 mod plays;
 mod rule;
+mod seats;
+mod table;
 mod window;
 mod window_calls;
 mod window_steps;
@@ -17,6 +19,8 @@ use crate::shared::rule::PendingRule;
 use atomic_table::{Seat, Shared};
 pub use desk::SharedDesk;
 pub use parts::{DeskPart, TableKey, View, WindowPart};
+pub use seats::{DeskSeat, WindowSeat};
+pub use table::SharedTable;
 pub use window::SharedWindow;
 
 /// The words and slots of a table, as threads see them.

@@ -3,6 +3,7 @@ ghost use Rattle.pending_table.specs.Beside.{KeepsDesks};
 ghost use Rattle.std.specs.Prelude.{◌≡◌, ◌<◌, ◌≤◌, ◌^◌, ℕ, true, false};
 
 mod plain;
+mod shared;
 
 use crate::word::{SlotState, from_word};
 use crate::{Abandoned, Desk, Look, Offered, Tag, Taken, Window};

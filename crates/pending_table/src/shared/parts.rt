@@ -27,6 +27,7 @@ pub struct View<R, K> {
 }
 
 /// The key of the table, held together with the number of slots.
+#[derive(Drop)]
 pub struct TableKey<K> {
     pub key: Snapshot<K>,
     pub slots: u32,

@@ -3,19 +3,37 @@ ghost use Rattle.std.specs.Prelude.{◌≡◌, ℕ, ◌<◌, None, []};
 ghost use Rattle.pending_table.specs.Seats.{IsSeated, IsWindowOf};
 ghost use Rattle.pending_table.specs.SharedPlays.{the_window};
 
-use crate::shared::{PartSeat, Words, window_calls};
+use crate::shared::{PartSeat, WindowSeat, Words, window_calls};
 use crate::{Fits, Offered, Taken, Window};
 
 /// A window. It has a seat at the table of its own.
+#[derive(Drop)]
 pub struct SharedWindow<'a, R: Fits> {
-    words: &'a Words<R>,
-    seat: PartSeat<R>,
-    slots: u32,
+    pub(crate) words: &'a Words<R>,
+    pub(crate) seat: PartSeat<R>,
+    pub(crate) slots: u32,
     ghost seated: { IsSeated words.now.table_id words.now.key.slots seat.table_id },
     ghost sized: { (words.now.key.slots ≡ slots) × (words.now.table_id.slots ≡ slots) × (0 < slots) },
     ghost view_is: { IsWindowOf words.now.key.key.value seat.me.0 },
     ghost bare: { seat.me.1 ≡ [] },
     ghost idle: { (the_window seat.me.0).giving ≡ None },
+}
+
+impl<'a, R: Fits> SharedWindow<'a, R> {
+    ghost use Rattle.pending_table.specs.NewSeats.{IsOwn};
+
+    /// Its seat, for another window.
+    pub fn into_seat(self) -> WindowSeat<R>
+        ensures own { IsOwn self.entry.words.now.table_id self.entry.words.now.key.key.value result.seat.table_id result.seat.me.0.key }
+        ensures same { result.seat ≡ self.entry.seat }
+    {
+        let SharedWindow {
+            words: _,
+            seat,
+            slots: _,
+        } = self;
+        WindowSeat { seat }
+    }
 }
 
 impl<'a, R: Fits> Window<R> for SharedWindow<'a, R> {
