@@ -1,5 +1,5 @@
 -- Keys and values alternately.
-use Rattle.std.proofs.Common.{◌≡◌, ℕ, zero, suc, ◌+◌, ◌/◌, ◌%◌, ◌<◌, ◌≤◌, List, [], ◌∷◌, length, get_or, refl, ap, subst, arith}
+use Rattle.std.proofs.Common.{◌≡◌, ℕ, zero, suc, ◌+◌, ◌/◌, ◌%◌, ◌<◌, ◌≤◌, List, [], ◌∷◌, length, get_or, refl, ap, ◌∙◌, subst, arith}
 use Rattle.std.proofs.lemmas.Bool.{lt-ltb, le-ltb}
 use Rattle.std.proofs.Math.Nat.{div-add-mod}
 use Rattle.hessian_graph.specs.declared.value.Value.TheVariants.{Null}
@@ -51,3 +51,19 @@ link_past ps at h =
     let long = length_alternately ps in
     let past : length (alternately ps) ≤ at = omega (arith, long, whole, h) in
     rw (le-ltb at (length (alternately ps)) past) refl
+
+same_pair : (x y : Pair) → x.key ≡ y.key → x.value ≡ y.value → x ≡ y
+same_pair x y k v = ap (λ a. record { key = a; value = x.value }) k ∙ ap (λ a. record { key = y.key; value = a }) v
+
+-- pairs with the same keys and values alternately are the same
+pub alternately_once : (xs ys : List Pair) → alternately xs ≡ alternately ys → xs ≡ ys
+alternately_once [] [] e = refl
+alternately_once [] (y ∷ ys) e = cc
+alternately_once (x ∷ xs) [] e = cc
+alternately_once (x ∷ xs) (y ∷ ys) e =
+    let key : x.key ≡ y.key = cc in
+    let mate : x.value ≡ y.value = cc in
+    let rest : alternately xs ≡ alternately ys = cc in
+    let tail : xs ≡ ys = alternately_once xs ys rest in
+    let head : x ≡ y = same_pair x y key mate in
+    cc

@@ -13,7 +13,7 @@ pub mod TableSteps
 pub mod ClassSteps
 pub mod Renaming
 pub mod Rebuilding
-pub mod SameLists
+pub mod SameTables
 pub mod ToLine
 pub mod ToTree
 pub mod FormsSpell

@@ -52,7 +52,11 @@ pub fn same_shape(alloc: Global, left: &Graph, right: &Graph) -> Result<bool, Al
 }
 
 /// Whether two graphs are equal with the names of types and classes put in.
+///
+/// Tables in the order of first use are equal then, and so are the numbers of types and classes.
 fn same_graph(left: &Graph, right: &Graph) -> bool
+    requires left { InOrderOfUse left.now }
+    requires right { InOrderOfUse right.now }
     ensures { IsTrue result ↔ (shape_of left.now ≡ shape_of right.now) }
 {
     let left = left.parts();

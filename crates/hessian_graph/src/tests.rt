@@ -1,8 +1,8 @@
 //! What no clause says: each fault once, the tables of a form, and a deep graph.
 
 use crate::{
-    Chars, Class, Classes, Graph, Items, Node, Nodes, Parts, PartsFault, Texts, Value, canon,
-    same_shape,
+    Chars, Class, Classes, Graph, Items, Node, Nodes, Pairs, Parts, PartsFault, Texts, Value,
+    canon, same_shape,
 };
 use std::alloc::{AllocError, Global};
 
@@ -221,6 +221,43 @@ fn sharing_is_part_of_the_shape(rt: HostRuntime) -> Result<(), AllocError> {
     let same = are_same(alloc, drawn(alloc, 0)?, drawn(alloc, 1)?)?;
     assert_eq!(rt; same, Some(true));
     let same = are_same(alloc, drawn(alloc, 0)?, drawn(alloc, 2)?)?;
+    assert_eq!(rt; same, Some(false));
+    Ok(())
+}
+
+/// As many lists of one type with a long name as are asked for, and behind them one of a type with this name.
+fn long_names(alloc: Global, count: u32, last: &str) -> Result<Parts, AllocError> {
+    let mut nodes = Vec::new(alloc);
+    let mut roots = Vec::new(alloc);
+    for place in 0..count {
+        let items = Items::from(Vec::new(alloc));
+        nodes.push(Node::List {
+            type_name: Some(0),
+            items,
+        })?;
+        roots.push(Value::Node(place))?;
+    }
+    nodes.push(Node::Map {
+        type_name: Some(1),
+        pairs: Pairs::from(Vec::new(alloc)),
+    })?;
+    roots.push(Value::Node(count))?;
+    let mut name = String::new(alloc);
+    for _place in 0..1_000_000 {
+        name.push('n')?;
+    }
+    let other = String::from_str(alloc, last)?;
+    let mut parts = untyped(alloc, roots, nodes);
+    parts.types = Texts::from(vec![in alloc; Chars::from(name), Chars::from(other)]?);
+    Ok(parts)
+}
+
+#[test]
+fn a_long_name_is_not_compared_for_each_node(rt: HostRuntime) -> Result<(), AllocError> {
+    let alloc = rt.alloc();
+    let one = long_names(alloc, 1_000_000, "a")?;
+    let other = long_names(alloc, 1_000_000, "b")?;
+    let same = are_same(alloc, one, other)?;
     assert_eq!(rt; same, Some(false));
     Ok(())
 }
