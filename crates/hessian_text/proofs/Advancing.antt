@@ -1,32 +1,30 @@
 -- What the steps of a reading keep, one byte and many in a run.
-use Rattle.std.proofs.Common.{◌≡◌, ℕ, suc, ◌+◌, ◌*◌, ◌-◌, ◌<◌, ◌≤◌, List, [], ◌∷◌, ◌++◌, length, take, drop, refl, sym, ap, ◌∙◌, subst, arith, append_assoc}
+use Rattle.std.proofs.Common.{◌≡◌, ℕ, ◌+◌, ◌*◌, ◌-◌, ◌<◌, ◌≤◌, List, [], ◌∷◌, ◌++◌, length, take, drop, refl, sym, ap, ◌∙◌, subst, arith, append_assoc}
 use Rattle.std.specs.Prelude.{Some, IsUtf8}
-use Rattle.std.proofs.lemmas.Bool.Decides.{nat_tests}
-use Rattle.std.proofs.lemmas.List.{append-nil, length-take-le, length-drop, take_all}
+use Rattle.std.proofs.lemmas.List.{append-nil, length-drop, take_all}
 use Rattle.std.proofs.Math.Seq.{take-add}
-use Rattle.std.proofs.lemmas.Str.{IsUtf8-nil, IsUtf8-append, IsUtf8-encode, IsUtf8-from_ascii}
-use Rattle.std.proofs.lemmas.Str.Ascii.{IsAscii-from_all}
+use Rattle.std.proofs.lemmas.Str.{IsUtf8-nil, IsUtf8-append, IsUtf8-encode}
 use Rattle.hessian_text.specs.declared.stage.Kind.{Kind}
 use Rattle.hessian_text.specs.declared.stage.Kind.TheVariants.{Text, Binary}
 use Rattle.hessian_text.specs.declared.stage.Part.{Part}
 use Rattle.hessian_text.specs.declared.stage.Begun.{Begun}
 use Rattle.hessian_text.specs.declared.stage.Begun.TheVariants.{Nothing}
-use Rattle.hessian_text.specs.declared.stage.Letter.TheVariants.{Single}
 use Rattle.hessian_text.specs.declared.stage.Stage.{Stage}
 use Rattle.hessian_text.specs.declared.stage.Stage.TheVariants.{Code, High, Low, Inside, Ended}
 use Rattle.hessian_text.specs.declared.step.Item.{Item}
 use Rattle.hessian_text.specs.declared.step.Item.TheVariants.{Grows, Whole, Wrong}
-use Rattle.hessian_text.specs.Ascii.{IsOneUnitRun}
-use Rattle.hessian_text.specs.Items.{IsCharacter}
+use Rattle.hessian_text.specs.Items.{IsCharacter, Contents}
+use Rattle.hessian_text.specs.Items.Contents.{none, item}
 use Rattle.hessian_text.specs.Residual.{begun_bytes}
 use Rattle.hessian_text.specs.Sound.{SoundBegun, SoundStage}
-use Rattle.hessian_text.specs.Steps.{letter_bytes, letter_units, entered, after_code, first_byte, item_step, taken, step, Runs}
+use Rattle.hessian_text.specs.Steps.{letter_bytes, letter_units, entered, after_code, item_step, taken, step, Runs}
 use Rattle.hessian_text.specs.Steps.Runs.{stay, go}
 use Rattle.hessian_text.specs.Reader.{Reading, SoundReading, Advances, RefusesItem}
 use Rattle.hessian_text.proofs.Characters.{item_ended}
 use Rattle.hessian_text.proofs.Stages.{moved_is, arrived_is, entered_some}
 use Rattle.hessian_text.proofs.Keeping.{entered_sound, stage_sound}
 use Rattle.hessian_text.proofs.Running.{runs_more, runs_one}
+use Rattle.hessian_text.proofs.ItemRuns.{contents_runs}
 
 -- ---- what a text gains is UTF-8
 
@@ -77,61 +75,29 @@ advances_more a b c xs ys p q = record {
 pub advances_on : (a b c : Reading) (n m : ℕ) (piece : List ℕ) → Advances a (take n piece) b → Advances b (take m (drop n piece)) c → Advances a (take (n + m) piece) c
 advances_on a b c n m piece p q = rw (take-add n m piece) (advances_more a b c (take n piece) (take m (drop n piece)) p q)
 
--- ---- many bytes, each of them one unit
+-- ---- whole items
 
-one_unit : (kind : Kind) (part : Part) (left b : ℕ) → (kind ≡ Text → b < 128) → step kind (Inside part left Nothing) b ≡ Some (entered part (left - 1), b ∷ [])
-one_unit Text part left b h = ap (taken part left) (ascii_first left b (h refl))
-  where
-    ascii_first : (left b : ℕ) → b < 128 → first_byte left b ≡ Whole (Single b)
-    ascii_first left b h = grind (arith, nat_tests)
-one_unit Binary part left b h = refl
-
-first_unit : (kind : Kind) (b : ℕ) (bs : List ℕ) → IsOneUnitRun kind (b ∷ bs) → kind ≡ Text → b < 128
-first_unit Text b bs h k = h 0 0 (omega arith)
-first_unit Binary b bs h k = absurd (cc)
-
-later_units : (kind : Kind) (b : ℕ) (bs : List ℕ) → IsOneUnitRun kind (b ∷ bs) → IsOneUnitRun kind bs
-later_units Text b bs h = λ k d l. h (suc k) d (omega arith)
-later_units Binary b bs h = tt
-
-units_run : (kind : Kind) (part : Part) (left : ℕ) (bytes : List ℕ) → length bytes ≤ left → IsOneUnitRun kind bytes → Runs kind (entered part left) bytes (entered part (left - length bytes)) bytes
-units_run kind part left [] few h = let e : left ≡ left - 0 = omega arith in subst (λ n. Runs kind (entered part left) [] (entered part n) []) e (stay (entered part left))
-units_run kind part left (b ∷ bs) few h =
-    let some : 0 < left = omega arith in
-    let rest : Runs kind (entered part (left - 1)) bs (entered part (left - 1 - length bs)) bs = units_run kind part (left - 1) bs (omega arith) (later_units kind b bs h) in
-    let e : left - 1 - length bs ≡ left - suc (length bs) = omega arith in
-    let k = go (Inside part left Nothing) (entered part (left - 1)) (entered part (left - suc (length bs))) b bs (b ∷ []) bs (one_unit kind part left b (first_unit kind b bs h)) (subst (λ n. Runs kind (entered part (left - 1)) bs (entered part n) bs) e rest) in
-    subst (λ s. Runs kind s (b ∷ bs) (entered part (left - suc (length bs))) (b ∷ bs)) (sym (entered_some part left some)) k
-
-pub advances_run : (kind : Kind) (part : Part) (left n : ℕ) (s t : Stage) (done more piece : List ℕ) → s ≡ Inside part left Nothing → 0 < left → t ≡ entered part (left - n) → n ≤ left → n ≤ length piece → IsOneUnitRun kind (take n piece) → more ≡ done ++ take n piece → Advances (record { kind = kind; done = done; stage = s }) (take n piece) (record { kind = kind; done = more; stage = t })
-advances_run kind part left n s t done more piece is some to few within h e =
-    let len : length (take n piece) ≡ n = length-take-le n piece within in
-    let r = units_run kind part left (take n piece) (omega (arith, len)) h in
-    let k : entered part (left - length (take n piece)) ≡ t = ap (λ x. entered part (left - x)) len ∙ sym to in
+pub advances_items : (kind : Kind) (part : Part) (left units : ℕ) (s t : Stage) (done value more forms : List ℕ) → s ≡ Inside part left Nothing → 0 < left → t ≡ entered part (left - units) → units ≤ left → Contents kind value units forms → more ≡ done ++ value → Advances (record { kind = kind; done = done; stage = s }) forms (record { kind = kind; done = more; stage = t })
+advances_items kind part left units s t done value more forms is some to fit c e =
+    let r = contents_runs kind part left units value forms c fit in
     let m : entered part left ≡ s = entered_some part left some ∙ sym is in
-    record { gained = take n piece; kind = refl; runs = subst (λ x. Runs kind s (take n piece) x (take n piece)) k (subst (λ x. Runs kind x (take n piece) (entered part (left - length (take n piece))) (take n piece)) m r); done = e }
+    record { gained = value; kind = refl; runs = subst (λ x. Runs kind s forms x value) (sym to) (subst (λ x. Runs kind x forms (entered part (left - units)) value) m r); done = e }
 
-entered_keeps : (kind : Kind) (part : Part) (n : ℕ) → n < 65536 → SoundStage kind (entered part n)
-entered_keeps kind part n h = entered_sound kind part n h
+contents_text : (value forms : List ℕ) (units : ℕ) → Contents Text value units forms → IsUtf8 value
+contents_text value forms units none = IsUtf8-nil
+contents_text value forms units (item v form vs fs n more i c) = IsUtf8-append v vs (letter_text v n form i) (contents_text vs fs more c)
 
-pub sound_run : (kind : Kind) (part : Part) (left n : ℕ) (s t : Stage) (done more piece : List ℕ) → SoundReading (record { kind = kind; done = done; stage = s }) → left < 65536 → t ≡ entered part (left - n) → IsOneUnitRun kind (take n piece) → more ≡ done ++ take n piece → SoundReading (record { kind = kind; done = more; stage = t })
-sound_run kind part left n s t done more piece h small to run e = record {
-  stage = subst (λ x. SoundStage kind x) (sym to) (entered_keeps kind part (left - n) (omega arith));
-  text = λ k. utf8_at more (done ++ take n piece) e (IsUtf8-append done (take n piece) (h.text k) (run_text kind (take n piece) k run));
+pub sound_items : (kind : Kind) (part : Part) (left units : ℕ) (s t : Stage) (done value more forms : List ℕ) → SoundReading (record { kind = kind; done = done; stage = s }) → left < 65536 → t ≡ entered part (left - units) → Contents kind value units forms → more ≡ done ++ value → SoundReading (record { kind = kind; done = more; stage = t })
+sound_items kind part left units s t done value more forms h small to c e = record {
+  stage = subst (λ x. SoundStage kind x) (sym to) (entered_sound kind part (left - units) (omega arith));
+  text = λ k. utf8_at more (done ++ value) e (IsUtf8-append done value (h.text k) (contents_text value forms units (subst (λ x. Contents x value units forms) k c)));
 }
-  where
-    run_text : (kind : Kind) (bytes : List ℕ) → kind ≡ Text → IsOneUnitRun kind bytes → IsUtf8 bytes
-    run_text Text bytes k run = IsUtf8-from_ascii bytes (IsAscii-from_all bytes run)
-    run_text Binary bytes k run = absurd (cc)
 
 pub inside_some : (kind : Kind) (s : Stage) (part : Part) (left : ℕ) (begun : Begun) → s ≡ Inside part left begun → SoundStage kind s → (0 < left) × (left < 65536)
 inside_some kind s part left begun e h = parts (subst (λ x. SoundStage kind x) e h)
   where
     parts : SoundStage kind (Inside part left begun) → (0 < left) × (left < 65536)
     parts k = (k.0, k.1)
-
-pub inside_is : (s : Stage) (part : Part) (left : ℕ) (f : Begun) → s ≡ Inside part left f → f ≡ Nothing → s ≡ Inside part left Nothing
-inside_is s part left f e k = e ∙ ap (Inside part left) k
 
 same_reading : (a b : Reading) (g : List ℕ) → b.kind ≡ a.kind → b.done ≡ a.done ++ g → g ≡ [] → b.stage ≡ a.stage → b ≡ a
 same_reading a b g k d e s = reading_is b.kind a.kind b.done a.done b.stage a.stage k (d ∙ ap (λ x. a.done ++ x) e ∙ append-nil a.done) s

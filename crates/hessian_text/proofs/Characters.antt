@@ -180,7 +180,7 @@ ended_by left begun b w w' e i fits = rw e (record { item = i; fits = fits })
 grown_to : (left : ℕ) (begun : Begun) (b : ℕ) (p q : Begun) → p ≡ q → SoundBegun Text left q → begun_bytes q ≡ begun_bytes begun ++ b ∷ [] → IsGrown Text left begun b p
 grown_to left begun b p q e s g = rw e (record { sound = s; grown = g })
 
-pair_character : (a b c d e f : ℕ) → IsPair a b c d e f → IsCharacter (letter_bytes (quad_of (pair_code b c e f))) 2 (a ∷ b ∷ c ∷ d ∷ e ∷ f ∷ [])
+pub pair_character : (a b c d e f : ℕ) → IsPair a b c d e f → IsCharacter (letter_bytes (quad_of (pair_code b c e f))) 2 (a ∷ b ∷ c ∷ d ∷ e ∷ f ∷ [])
 pair_character a b c d e f t = rw (quad_pair b c e f) (of_pair a b c d e f t)
 
 pub item_ended : (kind : Kind) (left : ℕ) (begun : Begun) (b : ℕ) (w : Letter) → 0 < left → b < 256 → SoundBegun kind left begun → item_step kind left begun b ≡ Whole w → IsEnded kind left begun b w

@@ -5,6 +5,7 @@ pub mod Stages
 pub mod Keeping
 pub mod Running
 pub mod Came
+pub mod ItemRuns
 pub mod Advancing
 pub mod Answering
 pub mod Writings
@@ -13,3 +14,5 @@ pub mod ReadBack
 pub mod TextBack
 pub mod Passing
 pub mod OneAnswer
+pub mod TextUnits
+pub mod FirstChunk

@@ -24,7 +24,7 @@ use Rattle.hessian_text.proofs.Answering.{take_bytes, drop_bytes}
 
 -- ---- binaries
 
-bytes_contents : (xs : List ℕ) → AreBytes xs → Contents Binary xs (length xs) xs
+pub bytes_contents : (xs : List ℕ) → AreBytes xs → Contents Binary xs (length xs) xs
 bytes_contents [] h = none
 bytes_contents (x ∷ xs) h = subst (λ n. Contents Binary (x ∷ xs) n (x ∷ xs)) (let e : 1 + length xs ≡ suc (length xs) = omega arith in e) (item (x ∷ []) (x ∷ []) xs xs 1 (length xs) (record { byte = x; small = first_small x xs h; value_is = refl; units_are = refl; form_is = refl }) (bytes_contents xs (later_small x xs h)))
 

@@ -95,13 +95,13 @@ cut_at (c ∷ cs) (suc n) s few p = by_size (cases_lt c 0x10000) (λ m f q. cut_
 
 -- ---- the writer's cuts
 
-first_low : (us : List ℕ) → slice_index us 32767 < 0xd800 → first_chunk us ≡ 32768
+pub first_low : (us : List ℕ) → slice_index us 32767 < 0xd800 → first_chunk us ≡ 32768
 first_low us h = grind (arith, nat_tests)
 
-first_high : (us : List ℕ) → 0xdc00 ≤ slice_index us 32767 → first_chunk us ≡ 32768
+pub first_high : (us : List ℕ) → 0xdc00 ≤ slice_index us 32767 → first_chunk us ≡ 32768
 first_high us h = grind (arith, nat_tests)
 
-first_pair : (us : List ℕ) → 0xd800 ≤ slice_index us 32767 → slice_index us 32767 < 0xdc00 → first_chunk us ≡ 32767
+pub first_pair : (us : List ℕ) → 0xd800 ≤ slice_index us 32767 → slice_index us 32767 < 0xdc00 → first_chunk us ≡ 32767
 first_pair us l h = grind (arith, nat_tests)
 
 parts_at : (xs : List ℕ) (n m : ℕ) → n ≡ suc m → (slice_index xs m < 0xd800) ⊎ ((0xdc00 ≤ slice_index xs m) ⊎ (slice_index xs (suc m) < 0xdc00)) → PartsNone xs n

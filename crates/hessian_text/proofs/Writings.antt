@@ -1,26 +1,26 @@
 -- What the writer appends, chunk by chunk.
 use Rattle.std.proofs.Common.{◌≡◌, ℕ, zero, suc, true, ◌+◌, ◌-◌, ◌/◌, ◌%◌, ◌<◌, ◌≤◌, List, [], ◌∷◌, ◌++◌, length, take, drop, refl, sym, ap, ◌∙◌, subst, arith, append_assoc}
-use Rattle.std.specs.Prelude.{map, Result, Ok, Err, OnErr, IsUtf8, slice_range, slice_index}
-use Rattle.std.specs.Str.{IsAscii, chars, all_scalars}
-use Rattle.std.proofs.lemmas.Str.{IsUtf8-from_ascii, scalars-chars, chars-IsAscii, encodes-IsAscii, encodes-chars}
+use Rattle.std.specs.Prelude.{Result, Ok, Err, OnErr, IsUtf8, encode_utf8, slice_range, slice_index}
+use Rattle.std.specs.Str.{IsAscii, IsCharBoundary, chars, all_scalars}
+use Rattle.std.proofs.lemmas.Str.{IsUtf8-from_ascii, IsUtf8-drop, IsCharBoundary-start, scalars-chars, chars-IsAscii, encodes-IsAscii, encodes-chars}
 use Rattle.std.specs.List.{flat_map}
 use Rattle.std.specs.Char.Escape.{encode_utf16}
-use Rattle.std.proofs.lemmas.List.{append-nil, length-drop, drop-drop, length-take-le, get_or-drop}
-use Rattle.std.proofs.Math.Seq.{take-append_seam}
+use Rattle.std.proofs.lemmas.List.{append-nil, length-drop, drop-drop, take_all, get_or-drop}
+use Rattle.std.proofs.lemmas.List.Concat.{flat_map-append}
+use Rattle.std.proofs.Math.Seq.{take-append_seam, drop-append_seam}
 use Rattle.std.proofs.lemmas.Bool.Decides.{nat_tests}
 use Rattle.hessian_text.specs.declared.stage.Kind.{Kind}
 use Rattle.hessian_text.specs.declared.stage.Kind.TheVariants.{Text, Binary}
-use Rattle.hessian_text.specs.Written.{CHUNK, text_head, final_head, inner_code, by_units, first_chunk, WrittenBinary, WrittenUnits, WrittenPlain, AppendsBinary, AppendsText, AppendsPlain, AppendsUnits, BeginsWith}
+use Rattle.hessian_text.specs.Written.{CHUNK, text_head, final_head, inner_code, by_units, first_chunk, WrittenBinary, WrittenUnits, WrittenPlain, AppendsBinary, AppendsText, AppendsPlain, BeginsWith}
 use Rattle.hessian_text.specs.Written.WrittenPlain.{last, chunk}
 use Rattle.hessian_text.specs.Written.WrittenBinary.{last as last_binary, chunk as chunk_binary}
 use Rattle.hessian_text.specs.Written.WrittenUnits.{last as last_units, chunk as chunk_units}
+use Rattle.hessian_text.specs.Units.{utf16, IsFirstChunk}
 use Rattle.hessian_text.proofs.Shapes.{encode_one, units_low}
+use Rattle.hessian_text.proofs.TextUnits.{cut_on, front_on, parts_of}
 
 pub begins_at_once : (old : List ℕ) → BeginsWith old old
 begins_at_once old = record { more = []; appended = sym (append-nil old) }
-
-pub begins_same : (old new : List ℕ) → new ≡ old → BeginsWith old new
-begins_same old new e = rw e (begins_at_once old)
 
 pub begins_more : (old mid new w : List ℕ) → mid ≡ old ++ w → BeginsWith mid new → BeginsWith old new
 begins_more old mid new w e b = record { more = w ++ b.more; appended = b.appended ∙ ap (λ x. x ++ b.more) e ∙ append_assoc old w b.more }
@@ -40,12 +40,6 @@ pub record PlainSoFar (kind : Kind) (old bytes : List ℕ) (at : ℕ) (now : Lis
   pub written : List ℕ
   pub appended : now ≡ old ++ written
   pub leads : (rest : List ℕ) → WrittenPlain kind (drop at bytes) rest → WrittenPlain kind bytes (written ++ rest)
-
-pub plain_start : (kind : Kind) (old bytes : List ℕ) → PlainSoFar kind old bytes 0 old
-plain_start kind old bytes = record { within = omega arith; written = []; appended = sym (append-nil old); leads = λ rest w. w }
-
-pub plain_begins : (kind : Kind) (old bytes : List ℕ) (at : ℕ) (now : List ℕ) → PlainSoFar kind old bytes at now → BeginsWith old now
-plain_begins kind old bytes at now p = record { more = p.written; appended = p.appended }
 
 pub plain_chunk : (kind : Kind) (old bytes : List ℕ) (at : ℕ) (now new : List ℕ) → PlainSoFar kind old bytes at now → 32768 < length bytes - at → new ≡ now ++ (inner_code kind ∷ 0x80 ∷ 0x00 ∷ slice_range bytes at (at + 32768)) → PlainSoFar kind old bytes (at + 32768) new
 plain_chunk kind old bytes at now new p more e =
@@ -78,45 +72,71 @@ plain_binary contents written (chunk bytes rest far later) = chunk_binary bytes 
 pub appends_binary : (old contents new : List ℕ) → AppendsPlain Binary old contents new → AppendsBinary old contents new
 appends_binary old contents new a = record { written = a.written; spells = plain_binary contents a.written a.spells; appended = a.appended }
 
--- ---- units, each by itself
+-- ---- characters, each of their units by itself
 
-pub record UnitsSoFar (old units : List ℕ) (at : ℕ) (now : List ℕ) : Type 0 where
-  pub within : at ≤ length units
+-- the chunks so far: what the rest leads to, all leads to
+pub record TextSoFar (old text : List ℕ) (at : ℕ) (now : List ℕ) : Type 0 where
+  pub cut : IsCharBoundary text at
   pub written : List ℕ
   pub appended : now ≡ old ++ written
-  pub leads : (rest : List ℕ) → WrittenUnits (drop at units) rest → WrittenUnits units (written ++ rest)
+  pub leads : (rest : List ℕ) → WrittenUnits (utf16 (drop at text)) rest → WrittenUnits (utf16 text) (written ++ rest)
 
-pub units_start : (old units : List ℕ) → UnitsSoFar old units 0 old
-units_start old units = record { within = omega arith; written = []; appended = sym (append-nil old); leads = λ rest w. w }
+pub text_start : (old text : List ℕ) → IsUtf8 text → TextSoFar old text 0 old
+text_start old text u = record { cut = IsCharBoundary-start text u; written = []; appended = sym (append-nil old); leads = λ rest w. w }
 
-pub units_begins : (old units : List ℕ) (at : ℕ) (now : List ℕ) → UnitsSoFar old units at now → BeginsWith old now
-units_begins old units at now p = record { more = p.written; appended = p.appended }
+pub text_begins_with : (old text : List ℕ) (at : ℕ) (now : List ℕ) → TextSoFar old text at now → BeginsWith old now
+text_begins_with old text at now p = record { more = p.written; appended = p.appended }
 
-pub units_chunk : (old units piece : List ℕ) (at count : ℕ) (now new : List ℕ) → UnitsSoFar old units at now → 32768 < length units - at → count ≡ first_chunk (drop at units) → count ≤ 32768 → piece ≡ take count (drop at units) → new ≡ now ++ (0x52 ∷ length piece / 256 ∷ length piece % 256 ∷ by_units piece) → UnitsSoFar old units (at + count) new
-units_chunk old units piece at count now new p more is few same e =
-    let len : length (drop at units) ≡ length units - at = length-drop at units in
-    let far : CHUNK < length (drop at units) = omega (arith, len) in
-    let size : length (take count (drop at units)) ≡ count = length-take-le count (drop at units) (omega (arith, len)) in
-    let put = 0x52 ∷ count / 256 ∷ count % 256 ∷ by_units (take count (drop at units)) in
-    let e1 : new ≡ now ++ (0x52 ∷ length (take count (drop at units)) / 256 ∷ length (take count (drop at units)) % 256 ∷ by_units (take count (drop at units))) = subst (λ x. new ≡ now ++ (0x52 ∷ length x / 256 ∷ length x % 256 ∷ by_units x)) same e in
-    let e2 : new ≡ now ++ put = subst (λ n. new ≡ now ++ (0x52 ∷ n / 256 ∷ n % 256 ∷ by_units (take count (drop at units)))) size e1 in
+-- the units of a front of whole characters, and the units behind it
+front_units : (text : List ℕ) (len units : ℕ) → IsUtf8 text → IsFirstChunk text len units → (take units (utf16 text) ≡ utf16 (take len text)) × (drop units (utf16 text) ≡ utf16 (drop len text))
+front_units text len units u f =
+    let front = utf16 (take len text) in
+    let behind = utf16 (drop len text) in
+    let parts : utf16 text ≡ front ++ behind = parts_of text len u f.cut in
+    let P : ℕ → Type 0 = λ n. (take n (utf16 text) ≡ front) × (drop n (utf16 text) ≡ behind) in
+    subst P (sym f.units_are) (ap (take (length front)) parts ∙ take-append_seam front behind, ap (drop (length front)) parts ∙ drop-append_seam front behind)
+
+pub text_chunk : (old text : List ℕ) (at len units : ℕ) (now new : List ℕ) → IsUtf8 text → TextSoFar old text at now → IsFirstChunk (drop at text) len units → len < length (drop at text) → new ≡ now ++ (0x52 ∷ units / 256 ∷ units % 256 ∷ by_units (utf16 (take len (drop at text)))) → TextSoFar old text (at + len) new
+text_chunk old text at len units now new u p f more e =
+    let rest_of = drop at text in
+    let v : IsUtf8 rest_of = IsUtf8-drop text at u p.cut in
+    let sides = front_units rest_of len units v f in
+    let put = 0x52 ∷ units / 256 ∷ units % 256 ∷ by_units (utf16 (take len rest_of)) in
     record {
-      within = omega arith;
+      cut = cut_on text at len p.cut f.cut;
       written = p.written ++ put;
-      appended = e2 ∙ ap (λ x. x ++ put) p.appended ∙ append_assoc old p.written put;
+      appended = e ∙ ap (λ x. x ++ put) p.appended ∙ append_assoc old p.written put;
       leads = λ rest w.
-          let later : WrittenUnits (drop count (drop at units)) rest = subst (λ x. WrittenUnits x rest) (sym (drop-drop count at units)) w in
-          let one = chunk_units (drop at units) rest count far is later in
-          let all = p.leads (0x52 ∷ count / 256 ∷ count % 256 ∷ (by_units (take count (drop at units)) ++ rest)) one in
-          subst (λ x. WrittenUnits units x) (sym (append_assoc p.written put rest)) all;
+          let later : WrittenUnits (drop units (utf16 rest_of)) rest = subst (λ x. WrittenUnits x rest) (ap utf16 (sym (drop-drop len at text)) ∙ sym sides.1) w in
+          let one = chunk_units (utf16 rest_of) rest units (f.more more) (f.full more) later in
+          let all = p.leads (0x52 ∷ units / 256 ∷ units % 256 ∷ (by_units (take units (utf16 rest_of)) ++ rest)) one in
+          subst (λ x. WrittenUnits (utf16 text) x) (ap (λ x. p.written ++ (0x52 ∷ units / 256 ∷ units % 256 ∷ (by_units x ++ rest))) sides.0 ∙ sym (append_assoc p.written put rest)) all;
     }
 
-pub units_end : (old units piece : List ℕ) (at : ℕ) (now new : List ℕ) → UnitsSoFar old units at now → length units - at ≤ 32768 → piece ≡ drop at units → new ≡ now ++ (text_head (length piece) ++ by_units piece) → AppendsUnits old units new
-units_end old units piece at now new p few same e =
-    let end = text_head (length (drop at units)) ++ by_units (drop at units) in
-    let len : length (drop at units) ≡ length units - at = length-drop at units in
-    let e' : new ≡ now ++ end = subst (λ x. new ≡ now ++ (text_head (length x) ++ by_units x)) same e in
-    record { written = p.written ++ end; spells = p.leads end (last_units (drop at units) (omega (arith, len))); appended = e' ∙ ap (λ x. x ++ end) p.appended ∙ append_assoc old p.written end }
+pub text_end : (old text : List ℕ) (at len units : ℕ) (now new : List ℕ) → IsUtf8 text → TextSoFar old text at now → IsFirstChunk (drop at text) len units → length (drop at text) ≤ len → new ≡ now ++ (text_head units ++ by_units (utf16 (drop at text))) → AppendsText old text new
+text_end old text at len units now new u p f whole e =
+    let rest = drop at text in
+    let all : take len rest ≡ rest = take_all len rest whole in
+    let size : units ≡ length (utf16 rest) = f.units_are ∙ ap (λ x. length (utf16 x)) all in
+    let end = text_head units ++ by_units (utf16 rest) in
+    let one : WrittenUnits (utf16 rest) end = subst (λ n. WrittenUnits (utf16 rest) (text_head n ++ by_units (utf16 rest))) (sym size) (last_units (utf16 rest) (subst (λ n. n ≤ CHUNK) size f.few)) in
+    record {
+      written = p.written ++ end;
+      spells = record {
+        chars = chars text;
+        scalar = scalars-chars text u;
+        are_chars = sym (encodes-chars text u);
+        written = p.leads end one;
+      };
+      appended = e ∙ ap (λ x. x ++ end) p.appended ∙ append_assoc old p.written end;
+    }
+
+-- the units so far and those of a front of the rest
+pub units_more : (old text : List ℕ) (at n : ℕ) (now new : List ℕ) → IsUtf8 text → IsCharBoundary text at → now ≡ old ++ by_units (utf16 (take at text)) → new ≡ now ++ by_units (utf16 (take n (drop at text))) → new ≡ old ++ by_units (utf16 (take (at + n) text))
+units_more old text at n now new u cut e f =
+    let front = utf16 (take at text) in
+    let next = utf16 (take n (drop at text)) in
+    f ∙ ap (λ x. x ++ by_units next) e ∙ append_assoc old (by_units front) (by_units next) ∙ ap (λ x. old ++ x) (sym (flat_map-append encode_utf8 front next)) ∙ ap (λ x. old ++ by_units x) (sym (front_on text at n u cut))
 
 -- ---- texts
 
@@ -162,22 +182,6 @@ appends_ascii old text new h a = record {
   appended = a.appended;
 }
 
-pub appends_chars : (old text units new : List ℕ) → IsUtf8 text → units ≡ flat_map encode_utf16 (chars text) → AppendsUnits old units new → AppendsText old text new
-appends_chars old text units new h e a = record {
-  written = a.written;
-  spells = record {
-    chars = chars text;
-    scalar = scalars-chars text h;
-    are_chars = sym (encodes-chars text h);
-    written = subst (λ x. WrittenUnits x a.written) e a.spells;
-  };
-  appended = a.appended;
-}
-
 pub on_err_any : {T E P : Type 0} (r : Result T E) → P → OnErr r P
 on_err_any (Ok x) p = tt
 on_err_any (Err e) p = p
-
-pub map_itself : (xs : List ℕ) → map (λ x. x) xs ≡ xs
-map_itself [] = refl
-map_itself (x ∷ xs) = ap (λ ys. x ∷ ys) (map_itself xs)

@@ -6,6 +6,6 @@ pub mod Written
 pub mod Residual
 pub mod Steps
 pub mod Sound
-pub mod Ascii
+pub mod Units
 pub mod Reader
 pub mod Answer

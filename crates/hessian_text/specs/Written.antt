@@ -72,11 +72,6 @@ pub record AppendsPlain (kind : Kind) (old bytes new : List ℕ) : Type 0 where
   pub spells : WrittenPlain kind bytes written
   pub appended : new ≡ old ++ written
 
-pub record AppendsUnits (old units new : List ℕ) : Type 0 where
-  pub written : List ℕ
-  pub spells : WrittenUnits units written
-  pub appended : new ≡ old ++ written
-
 -- new is old and perhaps more
 pub record BeginsWith (old new : List ℕ) : Type 0 where
   pub more : List ℕ

@@ -10,6 +10,7 @@ mod reader;
 mod reading;
 mod stage;
 mod step;
+mod units;
 mod writing;
 
 pub use fault::{BinaryFault, OutOfMemory, TextFault};

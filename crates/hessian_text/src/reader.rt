@@ -1,12 +1,13 @@
 //! A reading of a text or a binary, piece by piece.
 
 ghost use Rattle.std.specs.Prelude.{◌≡◌, ◌≢◌, ℕ, ◌+◌, ◌<◌, ◌≤◌, ◌++◌, ◌∷◌, [], List, length, take, false, true, IfOk, IfSome, OnOk, OnErr, string_bytes, IsTrue, ◌↔◌};
-ghost use Rattle.hessian_text.specs.Ascii.{IsAsciiRun, IsOneUnitRun};
+ghost use Rattle.hessian_text.specs.Items.{Contents};
 ghost use Rattle.hessian_text.specs.Reader.{Advances, Feeds, Takes, TakesFront};
 ghost use Rattle.hessian_text.specs.Steps.{letter_bytes};
 
 use crate::stage::{Begun, Kind, Letter, Part, Stage};
-use crate::step::{Fed, Step, entered, take_step};
+use crate::step::{Fed, Step, entered, pair_code, quad_of, take_step};
+use crate::units::{Measure, unit_count, utf8_front};
 use std::alloc::{AllocError, Global};
 use std::marker::Model;
 
@@ -77,26 +78,53 @@ fn append_letter(done: &mut Vec<u8>, letter: Letter) -> Result<(), AllocError>
     }
 }
 
-/// How many bytes from the first on are ASCII, of at most so many.
-fn ascii_run(piece: &[u8], most: usize) -> usize
-    requires { most ≤ length piece.now }
-    ensures within { result ≤ most }
-    ensures ascii { IsAsciiRun (take result piece.now) }
-{
-    let run = &piece[..most];
-    run.iter().position(|byte| *byte >= 0x80).unwrap_or(most)
-}
-
-/// How many bytes from the first on are items of one unit and one byte, where so many units are
-/// left.
-fn one_unit_run(kind: Kind, left: u16, piece: &[u8]) -> usize
-    ensures within { (result ≤ length piece.now) × (result ≤ left) }
-    ensures run { IsOneUnitRun kind (take result piece.now) }
+/// Whole items at the front of a piece that are their own values and fit so many units; not always
+/// all of them. An item has no more units than bytes, so that many bytes fit at once.
+fn item_run(kind: Kind, left: u16, piece: &[u8]) -> Measure
+    ensures within { result.len ≤ length piece.now }
+    ensures fits { result.units ≤ left }
+    ensures run { Contents kind (take result.len piece.now) result.units (take result.len piece.now) }
 {
     let most = piece.len().min(usize::from(left));
     match kind {
-        Kind::Text => ascii_run(piece, most),
-        Kind::Binary => most,
+        Kind::Text => text_run(piece, most),
+        Kind::Binary => Measure {
+            len: most,
+            units: most,
+        },
+    }
+}
+
+/// Whole characters in UTF-8 at the front of a piece, of at most so many bytes.
+fn text_run(piece: &[u8], most: usize) -> Measure
+    requires { most ≤ length piece.now }
+    ensures within { result.len ≤ most }
+    ensures fits { result.units ≤ most }
+    ensures run { Contents Kind.Text (take result.len piece.now) result.units (take result.len piece.now) }
+{
+    let len = utf8_front(piece, most);
+    Measure {
+        len,
+        units: unit_count(&piece[..len]),
+    }
+}
+
+/// The character above U+FFFF whose two surrogates stand at the front of a piece.
+fn pair_at(piece: &[u8]) -> Option<Letter>
+    ensures within { IfSome result (λ _. 6 ≤ length piece.now) }
+    ensures pair { IfSome result (λ p. Contents Kind.Text (letter_bytes p) 2 (take 6 piece.now)) }
+{
+    match piece {
+        [
+            0xed,
+            b @ 0xa0..=0xaf,
+            c @ 0x80..=0xbf,
+            0xed,
+            e @ 0xb0..=0xbf,
+            f @ 0x80..=0xbf,
+            ..
+        ] => { Some(quad_of(pair_code(*b, *c, *e, *f))) }
+        _ => None,
     }
 }
 
@@ -127,10 +155,33 @@ impl ChunkReader {
         let Some((part, left)) = before_item(self.stage) else {
             return Ok(0);
         };
-        let count = one_unit_run(self.kind, left, piece);
-        self.done.extend_from_slice(&piece[..count])?;
-        self.stage = entered(part, left - count as u16);
-        Ok(count)
+        let run = item_run(self.kind, left, piece);
+        self.done.extend_from_slice(&piece[..run.len])?;
+        self.stage = entered(part, left - run.units as u16);
+        Ok(run.len)
+    }
+
+    /// Takes a character of a text in two surrogates, where one lies whole at the front of a piece,
+    /// and answers how many bytes.
+    fn take_pair(&mut self, piece: &[u8]) -> Result<usize, AllocError>
+        ensures within { IfOk result (λ n. n ≤ length piece.now) }
+        ensures ok { IfOk result (λ n. Advances self.old (take n piece.now) self.new) }
+    {
+        let Kind::Text = self.kind else {
+            return Ok(0);
+        };
+        let Some((part, left)) = before_item(self.stage) else {
+            return Ok(0);
+        };
+        if left < 2 {
+            return Ok(0);
+        }
+        let Some(letter) = pair_at(piece) else {
+            return Ok(0);
+        };
+        append_letter(&mut self.done, letter)?;
+        self.stage = entered(part, left - 2);
+        Ok(6)
     }
 
     /// Takes one byte.
@@ -156,6 +207,10 @@ impl ChunkReader {
         requires some { 0 < length piece.now }
         ensures { IfOk result (TakesFront self.old piece.now self.new) }
     {
+        let pair = self.take_pair(piece)?;
+        if pair > 0 {
+            return Ok(Front::Taken(pair));
+        }
         let run = self.take_run(piece)?;
         if run > 0 {
             return Ok(Front::Taken(run));

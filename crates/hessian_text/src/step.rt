@@ -161,7 +161,7 @@ fn fourth_byte(a: u8, b: u8, c: u8, d: u8) -> Item
 }
 
 /// The four bytes of a character above U+FFFF.
-fn quad_of(code: u32) -> Letter
+pub(crate) fn quad_of(code: u32) -> Letter
     requires { code < 0x200000 }
     ensures { result ≡ quad_of code }
 {
@@ -174,7 +174,7 @@ fn quad_of(code: u32) -> Letter
 }
 
 /// The character whose surrogates end by these bytes.
-fn pair_code(b: u8, c: u8, e: u8, f: u8) -> u32
+pub(crate) fn pair_code(b: u8, c: u8, e: u8, f: u8) -> u32
     requires high { (0xa0 ≤ b) × (b ≤ 0xaf) × (0x80 ≤ c) × (c ≤ 0xbf) }
     requires low { (0xb0 ≤ e) × (e ≤ 0xbf) × (0x80 ≤ f) × (f ≤ 0xbf) }
     ensures code { result ≡ pair_code b c e f }

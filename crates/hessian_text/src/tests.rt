@@ -54,6 +54,44 @@ fn a_pair_stays_in_one_chunk(rt: HostRuntime) -> Result<(), Fail> {
 }
 
 #[test]
+fn characters_of_each_length(rt: HostRuntime) -> Result<(), Fail> {
+    let mut out = Vec::new(rt.alloc());
+    write_text(rt.alloc(), &mut out, "a\u{436}\u{4e2d}\u{1f600}b")?;
+    assert_eq!(rt;
+        out.as_slice(),
+        b"\x06a\xd0\xb6\xe4\xb8\xad\xed\xa0\xbd\xed\xb8\x80b".as_slice()
+    );
+    for bytes in [
+        b"\x06a\xd0\xb6\xe4\xb8\xad\xed\xa0\xbd\xed\xb8\x80b".as_slice(),
+        b"\x06a\xd0\xb6\xe4\xb8\xad\xf0\x9f\x98\x80b".as_slice(),
+        b"\x52\x00\x02a\xd0\xb6\x04\xe4\xb8\xad\xf0\x9f\x98\x80b".as_slice(),
+    ] {
+        let (text, end) = read_text(rt.alloc(), bytes, 0)?;
+        assert_eq!(rt; text.as_str(), "a\u{436}\u{4e2d}\u{1f600}b");
+        assert_eq!(rt; end, bytes.len());
+    }
+    Ok(())
+}
+
+#[test]
+fn long_texts_have_more_chunks(rt: HostRuntime) -> Result<(), Fail> {
+    let mut text = String::new(rt.alloc());
+    for _ in 0..20_000 {
+        text.push_str("a\u{4e2d}")?;
+    }
+    let mut out = Vec::new(rt.alloc());
+    write_text(rt.alloc(), &mut out, text.as_str())?;
+    assert_eq!(rt; out.len(), 3 + 3 + 20_000 * 4);
+    assert!(rt; out.starts_with(b"\x52\x80\x00a\xe4\xb8\xad"));
+    let rest = out.get(3 + 65_536..).unwrap_or(b"");
+    assert!(rt; rest.starts_with(b"\x53\x1c\x40a\xe4\xb8\xad"));
+    let (again, end) = read_text(rt.alloc(), out.as_slice(), 0)?;
+    assert_eq!(rt; again.as_str(), text.as_str());
+    assert_eq!(rt; end, out.len());
+    Ok(())
+}
+
+#[test]
 fn texts_are_refused_at_their_place(rt: HostRuntime) {
     let table = [
         (b"".as_slice(), TextFault::Short { at: 0 }),

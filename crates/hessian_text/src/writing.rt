@@ -1,16 +1,14 @@
 //! The writer's spelling of texts and binaries.
 
-ghost use Rattle.std.specs.Prelude.{◌≡◌, ◌++◌, ◌∷◌, ◌/◌, ◌%◌, ◌<◌, ◌≤◌, length, IfOk, OnErr, OnOk, encode_utf8};
+ghost use Rattle.std.specs.Prelude.{◌≡◌, ◌++◌, ◌∷◌, ◌/◌, ◌%◌, ◌<◌, ◌≤◌, length, take, IfOk, OnErr, OnOk, encode_utf8};
 ghost use Rattle.std.specs.Char.Escape.{encode_utf16};
-ghost use Rattle.std.specs.List.{flat_map};
-ghost use Rattle.std.specs.Str.{chars};
-ghost use Rattle.hessian_text.specs.Written.{AppendsBinary, AppendsPlain, AppendsText, AppendsUnits, BeginsWith, by_units, final_head, first_chunk, inner_code};
+ghost use Rattle.std.specs.Str.{IsCharBoundary};
+ghost use Rattle.hessian_text.specs.Units.{utf16};
+ghost use Rattle.hessian_text.specs.Written.{AppendsBinary, AppendsPlain, AppendsText, BeginsWith, by_units, final_head, inner_code};
 
 use crate::stage::Kind;
+use crate::units::{CHUNK, first_chunk, low_run};
 use std::alloc::{AllocError, Global};
-
-/// The most units of one chunk that the writer makes.
-const CHUNK: usize = 32_768;
 
 /// The code of a chunk that is not the last.
 fn inner_code(kind: Kind) -> u8
@@ -115,33 +113,6 @@ pub fn write_binary(_alloc: Global, out: &mut Vec<u8>, bytes: &[u8]) -> Result<(
     outcome
 }
 
-/// Appends the one or two units of a character.
-fn push_units(units: &mut Vec<u16>, c: char) -> Result<(), AllocError>
-    ensures { OnOk result (units.new.items ≡ units.old.items ++ encode_utf16 c) }
-{
-    let code = c as u32;
-    if code < 0x10000 {
-        units.push(code as u16)?;
-        return Ok(());
-    }
-    let over = code - 0x10000;
-    units.extend_from_slice(&[
-        (0xd800 + over / 0x400) as u16,
-        (0xdc00 + over % 0x400) as u16,
-    ])
-}
-
-/// The units of a text.
-fn units_of(alloc: Global, text: &str) -> Result<Vec<u16>, AllocError>
-    ensures { IfOk result (λ units. units.items ≡ flat_map encode_utf16 (chars text.now)) }
-{
-    let mut units = Vec::new(alloc);
-    for c in text.chars() {
-        push_units(&mut units, c)?;
-    }
-    Ok(units)
-}
-
 /// Appends one unit in its one, two or three bytes.
 #[tactic(auto, using(crate::proofs::Shapes::encode_one, crate::proofs::Shapes::encode_two, crate::proofs::Shapes::encode_three))]
 fn append_unit(out: &mut Vec<u8>, unit: u16) -> Result<(), AllocError>
@@ -160,87 +131,112 @@ fn append_unit(out: &mut Vec<u8>, unit: u16) -> Result<(), AllocError>
     }
 }
 
-/// Appends units, each by itself.
-fn append_units(out: &mut Vec<u8>, units: &[u16]) -> Result<(), AllocError>
-    ensures ok { OnOk result (out.new.items ≡ out.old.items ++ by_units units.now) }
+/// Appends a character, each of its units by itself.
+fn append_character(out: &mut Vec<u8>, character: char) -> Result<(), AllocError>
+    ensures ok { OnOk result (out.new.items
+        ≡ out.old.items ++ by_units (encode_utf16 character)) }
     ensures err { OnErr result (BeginsWith out.old.items out.new.items) }
 {
-    for unit in units {
-        append_unit(out, *unit)?;
+    let code = character as u32;
+    if code < 0x10000 {
+        return append_unit(out, code as u16);
+    }
+    let over = code - 0x10000;
+    append_unit(out, (0xd800 + over / 0x400) as u16)?;
+    append_unit(out, (0xdc00 + over % 0x400) as u16)
+}
+
+/// Appends the characters of one or two units at the front of a text: of one, as many as stand
+/// there; of two, the first. Answers in how many bytes of the text they are.
+fn append_front(out: &mut Vec<u8>, text: &str) -> Result<usize, AllocError>
+    ensures cut { IfOk result (IsCharBoundary text.now) }
+    ensures some { 0 < length text.now → IfOk result (λ len. 0 < len) }
+    ensures ok { IfOk result (λ len. out.new.items
+        ≡ out.old.items ++ by_units (utf16 (take len text.now))) }
+    ensures err { OnErr result (BeginsWith out.old.items out.new.items) }
+{
+    let run = low_run(text.as_bytes());
+    if run > 0 {
+        out.extend_from_slice(text[..run].as_bytes())?;
+        return Ok(run);
+    }
+    let Some(first) = text.chars().next() else {
+        return Ok(0);
+    };
+    append_character(out, first)?;
+    Ok(first.len_utf8())
+}
+
+/// Appends the characters of a text, each of their units by itself.
+fn append_characters(out: &mut Vec<u8>, text: &str) -> Result<(), AllocError>
+    ensures ok { OnOk result (out.new.items ≡ out.old.items ++ by_units (utf16 text.now)) }
+    ensures err { OnErr result (BeginsWith out.old.items out.new.items) }
+{
+    let mut at = 0;
+    while at < text.len() {
+        at += append_front(out, &text[at..])?;
     }
     Ok(())
 }
 
-/// How many units the first of more chunks has: a pair of surrogates stays together.
-fn first_chunk(units: &[u16]) -> usize
-    requires { 32768 < length units.now }
-    ensures count { result ≡ first_chunk units.now }
-    ensures fits { (32767 ≤ result) × (result ≤ 32768) }
-{
-    match units[CHUNK - 1] {
-        0xd800..=0xdbff => CHUNK - 1,
-        _ => CHUNK,
-    }
-}
-
 /// Appends a whole chunk of a text that isn't the last.
-fn append_inner_units(out: &mut Vec<u8>, units: &[u16]) -> Result<(), AllocError>
-    requires { length units.now ≤ 32768 }
+fn append_inner_text(out: &mut Vec<u8>, text: &str, units: usize) -> Result<(), AllocError>
+    requires { units ≤ 32768 }
     ensures ok { OnOk result (out.new.items
-        ≡ out.old.items ++ (0x52 ∷ length units.now / 256 ∷ length units.now % 256 ∷ by_units units.now)) }
+        ≡ out.old.items ++ (0x52 ∷ units / 256 ∷ units % 256 ∷ by_units (utf16 text.now))) }
     ensures err { OnErr result (BeginsWith out.old.items out.new.items) }
 {
-    let high = (units.len() / 256) as u8;
-    let low = (units.len() % 256) as u8;
+    let high = (units / 256) as u8;
+    let low = (units % 256) as u8;
     out.extend_from_slice(&[b'R', high, low])?;
-    append_units(out, units)
+    append_characters(out, text)
 }
 
 /// Appends the last chunk of a text.
-fn append_last_units(out: &mut Vec<u8>, units: &[u16]) -> Result<(), AllocError>
-    requires { length units.now ≤ 32768 }
+fn append_last_text(out: &mut Vec<u8>, text: &str, units: usize) -> Result<(), AllocError>
+    requires { units ≤ 32768 }
     ensures ok { OnOk result (out.new.items
-        ≡ out.old.items ++ (final_head Kind.Text (length units.now) ++ by_units units.now)) }
+        ≡ out.old.items ++ (final_head Kind.Text units ++ by_units (utf16 text.now))) }
     ensures err { OnErr result (BeginsWith out.old.items out.new.items) }
 {
-    append_text_head(out, units.len())?;
-    append_units(out, units)
-}
-
-/// Appends the chunks of a text, by its units.
-fn append_by_units(out: &mut Vec<u8>, units: &[u16]) -> Result<(), AllocError>
-    ensures ok { OnOk result (AppendsUnits out.old.items units.now out.new.items) }
-    ensures err { OnErr result (BeginsWith out.old.items out.new.items) }
-{
-    let mut at = 0;
-    while units.len() - at > CHUNK {
-        let count = first_chunk(&units[at..]);
-        append_inner_units(out, &units[at..at + count])?;
-        at += count;
-    }
-    append_last_units(out, &units[at..])
+    append_text_head(out, units)?;
+    append_characters(out, text)
 }
 
 /// Appends the chunks of a text.
-fn append_text(alloc: Global, out: &mut Vec<u8>, text: &str) -> Result<(), AllocError>
+fn append_chunks(out: &mut Vec<u8>, text: &str) -> Result<(), AllocError>
+    ensures ok { OnOk result (AppendsText out.old.items text.now out.new.items) }
+    ensures err { OnErr result (BeginsWith out.old.items out.new.items) }
+{
+    let mut at = 0;
+    let mut chunk = first_chunk(text);
+    while chunk.len < text.len() - at {
+        append_inner_text(out, &text[at..at + chunk.len], chunk.units)?;
+        at += chunk.len;
+        chunk = first_chunk(&text[at..]);
+    }
+    append_last_text(out, &text[at..], chunk.units)
+}
+
+/// Appends the chunks of a text.
+fn append_text(out: &mut Vec<u8>, text: &str) -> Result<(), AllocError>
     ensures ok { OnOk result (AppendsText out.old.items text.now out.new.items) }
     ensures err { OnErr result (BeginsWith out.old.items out.new.items) }
 {
     if text.is_ascii() {
         append_plain(Kind::Text, out, text.as_bytes())
     } else {
-        let units = units_of(alloc, text)?;
-        append_by_units(out, &units)
+        append_chunks(out, text)
     }
 }
 
 /// Appends the writer's spelling of a text. After a refusal `out` is unchanged.
-pub fn write_text(alloc: Global, out: &mut Vec<u8>, text: &str) -> Result<(), AllocError>
+pub fn write_text(_alloc: Global, out: &mut Vec<u8>, text: &str) -> Result<(), AllocError>
     ensures ok { OnOk result (AppendsText out.old.items text.now out.new.items) }
     ensures err { OnErr result (out.new.items ≡ out.old.items) }
 {
     let before = out.len();
-    let outcome = append_text(alloc, out, text);
+    let outcome = append_text(out, text);
     if outcome.is_err() {
         out.truncate(before);
     }
