@@ -2,9 +2,9 @@
 use Rattle.std.proofs.Common.{◌≡◌, ℕ, zero, suc, ◌+◌, ◌<◌, inr, Option, Some, None, Bool, true, true≢false, List, length, get_or, set, sym, refl, ap, ◌∙◌, subst, arith}
 use Rattle.pending_table.specs.Words.{word_of, last_of}
 use Rattle.pending_table.specs.Taken.{Suits}
-use Rattle.pending_table.specs.DeskLogs.{open_id}
+use Rattle.pending_table.specs.DeskLogs.{open_id, state_read, lost_read}
 use Rattle.pending_table.specs.DeskAnswers.{Looks, Leaves}
-use Rattle.pending_table.specs.PlainSlots.{shown, is_open_of, found, looked, left, leaves, state_read, lost_read}
+use Rattle.pending_table.specs.PlainSlots.{shown, is_open_of, found, looked, left, leaves}
 use Rattle.pending_table.specs.PlainTables.{log_at, held_at}
 use Rattle.pending_table.proofs.Slots.{held_here, log_here, log_set}
 use Rattle.pending_table.specs.declared.answers.Abandoned.{Abandoned}

@@ -22,3 +22,8 @@ pub mod SharedCalls
 pub mod SharedScans
 pub mod SharedCutting
 pub mod SharedZeros
+pub mod SharedRanks
+pub mod SharedGathers
+pub mod SharedClosing
+pub mod SharedEnd
+pub mod TestSeats

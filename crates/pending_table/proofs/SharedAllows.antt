@@ -32,10 +32,9 @@ module _ {R K : Type 0} (fits : K → ℕ → R → Type 0) (key : K) (slots n m
       subst (λ (y : Me (Option (Taken R)) (View R K) × ℕ). Allows (Kept fits key slots) n me y.0 y.1 (λ _. deadline) (λ _. dated (step n y.1 deadline 0 maybe.none) y.0 deadline)) (λ i. (desk_shape i, (ap (λ (k : ℕ). slots + k) is.1 ∙ sym at) i))
       (stores_deadline fits key slots n me m.1 (the_desk m.0) deadline closed)
 
-  pub waiting_at : (id : ℕ) → (the_desk m.0).log.is_open ≡ false → (the_desk m.0).log.last ≤ id → id < 2 ^ 60 → slot_of slots id ≡ slot
-      → Allows (Kept fits key slots) n me m slot (λ _. 4 * (id + 1) + 1) (λ _. opened (step n slot (4 * (id + 1) + 1) 0 maybe.none) m (4 * (id + 1) + 1))
-  waiting_at id closed above low place =
-      subst (λ (y : Me (Option (Taken R)) (View R K) × ℕ). Allows (Kept fits key slots) n me y.0 y.1 (λ _. 4 * (id + 1) + 1) (λ _. opened (step n y.1 (4 * (id + 1) + 1) 0 maybe.none) y.0 (4 * (id + 1) + 1))) (λ i. (desk_shape i, is.1 i))
+  pub waiting_at : (id new : ℕ) → new ≡ 4 * (id + 1) + 1 → (the_desk m.0).log.is_open ≡ false → (the_desk m.0).log.last ≤ id → id < 2 ^ 60 → slot_of slots id ≡ slot → Allows (Kept fits key slots) n me m slot (λ _. new) (λ _. opened (step n slot new 0 maybe.none) m new)
+  waiting_at id new word closed above low place =
+      subst (λ (y : Me (Option (Taken R)) (View R K) × ℕ × ℕ). Allows (Kept fits key slots) n me y.0 y.1 (λ _. y.2) (λ _. opened (step n y.1 y.2 0 maybe.none) y.0 y.2)) (λ i. (desk_shape i, is.1 i, sym word i))
       (stores_waiting fits key slots n me m.1 (the_desk m.0) id closed above low (place ∙ sym is.1))
 
   pub state_at : (the_desk m.0).log.is_open ≡ true → (the_desk m.0).taken ≡ None → Allows (Kept fits key slots) n me m slot (λ k. k) (looked fits (step n slot 0 0 maybe.none) m)

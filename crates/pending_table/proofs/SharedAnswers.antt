@@ -3,8 +3,7 @@ use Rattle.std.proofs.Common.{◌≡◌, ◌≢◌, ◌⊎◌, ℕ, ◌+◌, ◌
 use mathlib.Core.Option as maybe
 use Rattle.atomic_table.specs.Table.{Me, step, rest}
 use Rattle.pending_table.specs.DeskAnswers.{Leaves, Looks}
-use Rattle.pending_table.specs.DeskLogs.{opening, open_id, opened_log, read_log, ended_log}
-use Rattle.pending_table.specs.PlainSlots.{state_read, lost_read}
+use Rattle.pending_table.specs.DeskLogs.{opening, open_id, opened_log, read_log, ended_log, state_read, lost_read}
 use Rattle.pending_table.specs.Seats.{one_desk, IsDeskOf}
 use Rattle.pending_table.specs.SharedPlays.{the_desk, on_desk, dates, opens, loads, takes, empties, frees_with, took_value, looked, met, lost_id, left_id}
 use Rattle.pending_table.specs.Taken.{Suits}
@@ -80,23 +79,24 @@ module _ {R K : Type 0} (fits : K → ℕ → R → Type 0) (key : K) (n slot la
   looked_waiting told not_done not_claimed = ⊎_elim (λ took. absurd (not_done (took.0 ∙ ap (λ (k : ℕ). 4 * k + 3) last_is)))
       (λ other. ⊎_elim (λ one. one ∙ ap (λ (k : ℕ). 4 * k + 1) last_is) (λ two. absurd (not_claimed (two ∙ ap (λ (k : ℕ). 4 * k + 2) last_is))) other.0) told
 
+module _ {R K : Type 0} (fits : K → ℕ → R → Type 0) (key : K) (n slot last free : ℕ) (m new : Me (Option (Taken R)) (View R K)) (found : ℕ) (last_is : (the_desk m.0).log.last ≡ last) where
   -- what an exchange from waiting told
   Told : Bool → Type 0
   Told hit = MatchBool hit (new ≡ (on_desk (λ desk. frees_with found (end.Lost desk.log.reads.lost) desk) m.0, m.1))
-      (took_value fits (step n slot (4 * last + 1) (4 * last) maybe.none) m found new ⊎ ((found ≡ 4 * (the_desk m.0).log.last + 2) × (new ≡ (on_desk (loads found) m.0, m.1))))
+      (took_value fits (step n slot (4 * last + 1) free maybe.none) m found new ⊎ ((found ≡ 4 * (the_desk m.0).log.last + 2) × (new ≡ (on_desk (loads found) m.0, m.1))))
 
-  lost_missed : lost_id fits (step n slot (4 * last + 1) (4 * last) maybe.none) m found new → found ≢ 4 * last + 1
-      → took_value fits (step n slot (4 * last + 1) (4 * last) maybe.none) m found new ⊎ ((found ≡ 4 * (the_desk m.0).log.last + 2) × (new ≡ (on_desk (loads found) m.0, m.1)))
+  lost_missed : lost_id fits (step n slot (4 * last + 1) free maybe.none) m found new → found ≢ 4 * last + 1
+      → took_value fits (step n slot (4 * last + 1) free maybe.none) m found new ⊎ ((found ≡ 4 * (the_desk m.0).log.last + 2) × (new ≡ (on_desk (loads found) m.0, m.1)))
   unfolding Told
   lost_missed told other = subst Told (ne_eqb found (4 * last + 1) other) told
 
-  pub lost_done : lost_id fits (step n slot (4 * last + 1) (4 * last) maybe.none) m found new → found ≡ 4 * last + 3 → took_value fits (step n slot (4 * last + 1) (4 * last) maybe.none) m found new
+  pub lost_done : lost_id fits (step n slot (4 * last + 1) free maybe.none) m found new → found ≡ 4 * last + 3 → took_value fits (step n slot (4 * last + 1) free maybe.none) m found new
   lost_done told is = ⊎_elim (λ took. took) (λ claimed. absurd (let two = claimed.0 in omega arith)) (lost_missed told (λ one. omega arith))
 
-  pub lost_claimed : lost_id fits (step n slot (4 * last + 1) (4 * last) maybe.none) m found new → found ≡ 4 * last + 2 → new ≡ (on_desk (loads found) m.0, m.1)
+  pub lost_claimed : lost_id fits (step n slot (4 * last + 1) free maybe.none) m found new → found ≡ 4 * last + 2 → new ≡ (on_desk (loads found) m.0, m.1)
   lost_claimed told is = ⊎_elim (λ took. absurd (let three = took.0 in omega arith)) (λ claimed. claimed.1) (lost_missed told (λ one. omega arith))
 
-  pub lost_waiting : lost_id fits (step n slot (4 * last + 1) (4 * last) maybe.none) m found new → found ≢ 4 * last + 3 → found ≢ 4 * last + 2 → (found ≡ 4 * last + 1) × (new ≡ (on_desk (λ desk. frees_with found (end.Lost desk.log.reads.lost) desk) m.0, m.1))
+  pub lost_waiting : lost_id fits (step n slot (4 * last + 1) free maybe.none) m found new → found ≢ 4 * last + 3 → found ≢ 4 * last + 2 → (found ≡ 4 * last + 1) × (new ≡ (on_desk (λ desk. frees_with found (end.Lost desk.log.reads.lost) desk) m.0, m.1))
   unfolding Told
   lost_waiting told not_done not_claimed = ⊎_elim
       (λ is. (is, subst Told (eq-eqb found (4 * last + 1) is) told))
@@ -104,13 +104,13 @@ module _ {R K : Type 0} (fits : K → ℕ → R → Type 0) (key : K) (n slot la
       (same_or found (4 * last + 1))
 
   Left : Bool → Type 0
-  Left hit = MatchBool hit (new ≡ (on_desk (frees_with found end.Freed) m.0, m.1)) (met (step n slot (4 * last + 1) (4 * last) maybe.none) m found new)
+  Left hit = MatchBool hit (new ≡ (on_desk (frees_with found end.Freed) m.0, m.1)) (met (step n slot (4 * last + 1) free maybe.none) m found new)
 
-  pub left_waiting : left_id (step n slot (4 * last + 1) (4 * last) maybe.none) m found new → found ≡ 4 * last + 1 → new ≡ (on_desk (frees_with found end.Freed) m.0, m.1)
+  pub left_waiting : left_id (step n slot (4 * last + 1) free maybe.none) m found new → found ≡ 4 * last + 1 → new ≡ (on_desk (frees_with found end.Freed) m.0, m.1)
   unfolding Left
   left_waiting told is = subst Left (eq-eqb found (4 * last + 1) is) told
 
-  pub left_met : left_id (step n slot (4 * last + 1) (4 * last) maybe.none) m found new → found ≢ 4 * last + 1 → ((found ≡ 4 * last + 2) ⊎ (found ≡ 4 * last + 3)) × (new ≡ (on_desk (loads found) m.0, m.1))
+  pub left_met : left_id (step n slot (4 * last + 1) free maybe.none) m found new → found ≢ 4 * last + 1 → ((found ≡ 4 * last + 2) ⊎ (found ≡ 4 * last + 3)) × (new ≡ (on_desk (loads found) m.0, m.1))
   unfolding Left
   left_met told other =
       let t = subst Left (ne_eqb found (4 * last + 1) other) told in

@@ -1,8 +1,7 @@
 -- The seat of a desk after each of its calls.
 use Rattle.std.proofs.Common.{◌≡◌, ℕ, Option, refl, ap, ◌∙◌}
 use Rattle.atomic_table.specs.Table.{Me}
-use Rattle.pending_table.specs.DeskLogs.{read_log}
-use Rattle.pending_table.specs.PlainSlots.{state_read, lost_read}
+use Rattle.pending_table.specs.DeskLogs.{read_log, state_read, lost_read}
 use Rattle.pending_table.specs.Seats.{IsDeskOf}
 use Rattle.pending_table.specs.SharedPlays.{the_desk, on_desk, loads, asks, frees_with}
 use Rattle.pending_table.proofs.SharedAnswers.{after_step}

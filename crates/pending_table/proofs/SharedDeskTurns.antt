@@ -4,8 +4,7 @@ use mathlib.Core.Option as maybe
 use lib.ListN.{get_elem?}
 use prog.Atomic.{either}
 use Rattle.atomic_table.specs.Table.{State, Me, Act, step, keeps, takes, Valid, stepped, carried_after, Allows}
-use Rattle.pending_table.specs.DeskLogs.{opening, open_id}
-use Rattle.pending_table.specs.PlainSlots.{state_read}
+use Rattle.pending_table.specs.DeskLogs.{opening, open_id, state_read}
 use Rattle.pending_table.specs.Seats.{one_desk}
 use Rattle.pending_table.specs.SharedPlays.{loads, frees_with, took_value, looked, met, lost_id, left_id}
 use Rattle.pending_table.specs.SharedPlays as plays
@@ -28,7 +27,7 @@ use Rattle.pending_table.specs.declared.shared.parts.View.{View}
 use Rattle.pending_table.specs.declared.shared.parts.WindowPart.{WindowPart}
 
 -- of two numbers one is less, or they are the same
-in_order : {F : Type 0} (i j : ℕ) → (i < j → F) → (i ≡ j → F) → (j < i → F) → F
+pub in_order : {F : Type 0} (i j : ℕ) → (i < j → F) → (i ≡ j → F) → (j < i → F) → F
 in_order zero zero less same more = same refl
 in_order zero (suc j) less same more = less (omega arith)
 in_order (suc i) zero less same more = more (omega arith)
@@ -36,7 +35,7 @@ in_order (suc i) (suc j) less same more = in_order i j (λ l. less (omega arith)
 
 module _ {R K : Type 0} (fits : K → ℕ → R → Type 0) (key : K) (slots : ℕ) (windows : List (WindowPart R)) (lost slot : ℕ) (d : DeskPart R) (p : Phase R) (sits : Sits fits key slots windows lost slot d p) where
   -- an id stands once among those that a desk opened
-  opened_once : (i j : ℕ) (a b : Opened) → slice_get d.log.opened i ≡ Some a → slice_get d.log.opened j ≡ Some b → a.id ≡ b.id → a ≡ b
+  pub opened_once : (i j : ℕ) (a b : Opened) → slice_get d.log.opened i ≡ Some a → slice_get d.log.opened j ≡ Some b → a.id ≡ b.id → a ≡ b
   opened_once i j a b ai bj same = in_order i j
       (λ less. let up = sits.rising i j a b less ai bj in absurd (omega arith))
       (λ one. one_element a b (sym ai ∙ (ap (slice_get d.log.opened) one ∙ bj)))

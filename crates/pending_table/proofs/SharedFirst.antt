@@ -89,6 +89,7 @@ module _ {R K : Type 0} (fits : K → ℕ → R → Type 0) (key : K) (slots : �
   first_ledger some = record {
     desk_count = desks_count R 0 slots;
     phase_count = free_count R slots;
+    window_count = refl;
     some_slot = some;
     sits = λ slot d p at there. subst (λ (y : DeskPart R × Phase R). Sits fits key slots blank_windows 0 slot y.0 y.1) (λ i. (desk_is slots slot d at i, phase_is_free slots slot p there i)) (blank_sits blank_windows slot);
     works = λ number w at. subst (Works fits key slots (blank_desks 0 slots) (all_free slots) 0 0 number) (window_is_blank number w at) (blank_works (blank_desks 0 slots) (all_free slots) number);

@@ -89,6 +89,7 @@ module _ {R K : Type 0} (fits : K → ℕ → R → Type 0) (key : K) (slots : �
   desk_moves desks windows phases lost setter ledger slot d p e q at ph sits goes = record {
     desk_count = length-set desks slot e ∙ ledger.desk_count;
     phase_count = length-set phases slot q ∙ ledger.phase_count;
+    window_count = ledger.window_count;
     some_slot = ledger.some_slot;
     sits = λ j f r fe re. both_set {F = Sits fits key slots windows lost j f r} desks phases slot e q j f r fe re
         (λ here ef qr. subst (λ (y : ℕ × DeskPart R × Phase R). Sits fits key slots windows lost y.0 y.1 y.2) (λ i. (sym here i, ef i, qr i)) sits)

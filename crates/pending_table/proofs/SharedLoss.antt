@@ -78,6 +78,7 @@ module _ {R K : Type 0} (fits : K → ℕ → R → Type 0) (key : K) (slots : �
       let goes : (slot last : ℕ) (p : Phase R) → WindowGoes k slot slots last w p v p = λ slot last p. record { adds = λ i c at. at; bounds = λ id low. low; others = λ other x no is. is; waits_on = λ waits. waits; gives_on = λ id x is no. is } in record {
         desk_count = ledger.desk_count;
         phase_count = ledger.phase_count;
+        window_count = length-set windows k v ∙ ledger.window_count;
         some_slot = ledger.some_slot;
         sits = λ j d p dj pj. sits_lost (set windows k v) number j d p (sits_on fits key slots windows k w v 0 (suc j) d.log.last p p here inside (goes (suc j) d.log.last p) j (λ z. omega arith) d p (ledger.sits j d p dj pj));
         works = λ j u uj. ⊎_elim

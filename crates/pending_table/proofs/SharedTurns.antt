@@ -86,6 +86,7 @@ module _ {R K : Type 0} (fits : K → ℕ → R → Type 0) (key : K) (slots : �
   window_moves desks windows phases lost setter ledger k w v here inside slot d p q at ph works sits goes once = record {
     desk_count = ledger.desk_count;
     phase_count = length-set phases slot q ∙ ledger.phase_count;
+    window_count = length-set windows k v ∙ ledger.window_count;
     some_slot = ledger.some_slot;
     sits = λ j f r fe re.
         ⊎_elim

@@ -29,7 +29,7 @@ change_longer change (x ∷ y ∷ sights) sight = ap (λ (l : List Sight). x ∷
 module _ {R : Type 0} where
   -- a phase with an id shows a state of that id
   word_shown : (last id : ℕ) (p : Phase R) → last ≡ id + 1 → last ≤ 2 ^ 60 → IsStateWord (shown_word last p)
-  word_shown last id free is small = (state.Free id, (let same : 4 * last + 0 ≡ 4 * (id + 1) = omega arith in same), omega arith)
+  word_shown last id free is small = (state.Free id, ap (λ (k : ℕ). 4 * k + 0) is, omega arith)
   word_shown last id waiting is small = (state.Waiting id, ap (λ (k : ℕ). 4 * k + 1) is, omega arith)
   word_shown last id (claimed number x) is small = (state.Claimed id, ap (λ (k : ℕ). 4 * k + 2) is, omega arith)
   word_shown last id (done x) is small = (state.Done id, ap (λ (k : ℕ). 4 * k + 3) is, omega arith)

@@ -12,6 +12,14 @@ opening id deadline = record { id = id; deadline = deadline }
 abbrev pub no_reads : Reads
 no_reads = record { loads = 0; seen = 0; lost_loads = 0; lost = 0 }
 
+-- one more load of the slot's word
+abbrev pub state_read : ℕ → Reads → Reads
+state_read word reads = record reads { loads = reads.loads + 1; seen = word }
+
+-- one more load of the lost word
+abbrev pub lost_read : ℕ → Reads → Reads
+lost_read number reads = record reads { lost_loads = reads.lost_loads + 1; lost = number }
+
 -- between the two, the desk has loaded the word of its slot, and the last load gave this word
 abbrev pub LastSaw : Reads → Reads → ℕ → Type 0
 LastSaw before after word = (before.loads < after.loads) × (after.seen ≡ word)

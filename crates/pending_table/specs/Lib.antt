@@ -15,4 +15,7 @@ pub mod SharedPlays
 pub mod Seats
 pub mod Scans
 pub mod Cutting
-pub mod NewSeats
+pub mod Elements
+pub mod TableSeats
+pub mod Closing
+pub mod Gathering

@@ -1,7 +1,7 @@
 -- The slot of a table of one thread, and what each call makes of it.
-use Rattle.std.specs.Prelude.{ℕ, zero, suc, ◌+◌, Bool, true, false, if◌then◌else◌, nat_lt}
+use Rattle.std.specs.Prelude.{ℕ, zero, suc, Bool, true, false, if◌then◌else◌, nat_lt}
 use Rattle.pending_table.specs.Words.{word_of}
-use Rattle.pending_table.specs.DeskLogs.{open_id, opened_log, read_log, ended_log}
+use Rattle.pending_table.specs.DeskLogs.{open_id, opened_log, state_read, lost_read, read_log, ended_log}
 use Rattle.pending_table.specs.declared.answers.Abandoned.{Abandoned}
 use Rattle.pending_table.specs.declared.answers.Abandoned.TheVariants as abandoned
 use Rattle.pending_table.specs.declared.answers.Look.{Look}
@@ -10,21 +10,12 @@ use Rattle.pending_table.specs.declared.answers.Taken.{Taken}
 use Rattle.pending_table.specs.declared.answers.Taken.TheVariants.{Timeout}
 use Rattle.pending_table.specs.declared.logs.DeskLog.{DeskLog}
 use Rattle.pending_table.specs.declared.logs.End.TheVariants as end
-use Rattle.pending_table.specs.declared.logs.Reads.{Reads}
 use Rattle.pending_table.specs.declared.logs.Sight.{Sight}
 use Rattle.pending_table.specs.declared.logs.Sight.TheVariants as sight
 use Rattle.pending_table.specs.declared.plain.held.Held.{Held}
 use Rattle.pending_table.specs.declared.plain.held.Held.TheVariants.{Unused, Free, Waiting, Done}
 use Rattle.pending_table.specs.declared.word.SlotState.{SlotState}
 use Rattle.pending_table.specs.declared.word.SlotState.TheVariants as state
-
--- one more load of the slot's word
-abbrev pub state_read : ℕ → Reads → Reads
-state_read word reads = record reads { loads = reads.loads + 1; seen = word }
-
--- one more load of the lost word
-abbrev pub lost_read : ℕ → Reads → Reads
-lost_read number reads = record reads { lost_loads = reads.lost_loads + 1; lost = number }
 
 module _ {R : Type 0} where
   -- the state that a slot shows

@@ -1,13 +1,12 @@
 -- What each kind of step tells the seat that makes it: how its view changes, and what the word that it found says.
-use Rattle.std.specs.Prelude.{◌≡◌, ◌⊎◌, ℕ, ◌+◌, ◌*◌, ◌/◌, ◌-◌, ◌≤◌, ◌^◌, ◌==◌, Option, Some, None, true, if◌then◌else◌, MatchBool, List, [], ◌∷◌, ◌++◌}
+use Rattle.std.specs.Prelude.{◌≡◌, ◌⊎◌, ℕ, ◌≤◌, ◌^◌, ◌==◌, Option, Some, None, true, if◌then◌else◌, MatchBool, List, [], ◌∷◌, ◌++◌}
 use mathlib.Core.Option as maybe
 use Rattle.atomic_table.specs.Table.{Me, Step, rest}
-use Rattle.pending_table.specs.DeskLogs.{opening, open_id, read_log, ended_log}
-use Rattle.pending_table.specs.PlainSlots.{state_read, lost_read}
+use Rattle.pending_table.specs.DeskLogs.{opening, open_id, state_read, lost_read, read_log, ended_log}
 use Rattle.pending_table.specs.SharedViews.{blank_desk, blank_part}
 use Rattle.pending_table.specs.Taken.{Suits}
 use Rattle.pending_table.specs.WindowLogs.{saw_log, claimed_log, set_log, kept_log}
-use Rattle.pending_table.specs.Words.{last_of, slot_of, word_of}
+use Rattle.pending_table.specs.Words.{WAITING_TAG, CLAIMED_TAG, DONE_TAG, packed, last_in, id_in, last_of, slot_of, word_of}
 use Rattle.pending_table.specs.declared.answers.Taken.{Taken}
 use Rattle.pending_table.specs.declared.logs.DeskLog.{DeskLog}
 use Rattle.pending_table.specs.declared.logs.End.{End}
@@ -34,7 +33,7 @@ module _ {R : Type 0} where
   -- waiting was stored, as this word
   abbrev pub opens : ℕ → DeskPart R → DeskPart R
   opens word desk =
-      with_log (record desk.log { last = word / 4; is_open = true; opened = desk.log.opened ++ opening (word / 4 - 1) desk.log.deadline ∷ [] }) desk.taken desk
+      with_log (record desk.log { last = last_in word; is_open = true; opened = desk.log.opened ++ opening (id_in word) desk.log.deadline ∷ [] }) desk.taken desk
 
   -- the state was loaded
   abbrev pub loads : ℕ → DeskPart R → DeskPart R
@@ -86,7 +85,7 @@ change_last change (sight ∷ next ∷ sights) = sight ∷ change_last change (n
 
 -- a slot that waited has shown its deadline
 abbrev pub dated_sight : ℕ → Sight → Sight
-dated_sight deadline (Word slot word) = Due slot (word / 4 - 1) deadline
+dated_sight deadline (Word slot word) = Due slot (id_in word) deadline
 dated_sight deadline (Due slot id old) = Due slot id deadline
 dated_sight deadline (Claimed slot id old) = Claimed slot id old
 dated_sight deadline (Missed slot id old word) = Missed slot id old word
@@ -132,7 +131,7 @@ module _ {R K : Type 0} where
 
   -- the word of the desk's open id with this tag
   abbrev pub word_with : ℕ → View R K → ℕ
-  word_with tag view = 4 * (the_desk view).log.last + tag
+  word_with tag view = packed (the_desk view).log.last tag
 
   abbrev pub dated : Tells R K
   dated step me found after = after ≡ (on_desk (dates step.first) me.0, me.1)
@@ -143,7 +142,7 @@ module _ {R K : Type 0} where
   -- done was found: the desk has the slot's turn, and the value that it took suits its id
   abbrev pub took_value : (fits : K → ℕ → R → Type 0) → Tells R K
   took_value fits step me found after =
-      (found ≡ word_with 3 me.0)
+      (found ≡ word_with DONE_TAG me.0)
       × ((given : Taken R)
       × ((k : K) → me.0.key ≡ Some k → Suits fits k (open_id (the_desk me.0).log) (the_desk me.0).log.deadline given)
       × (after ≡ (on_desk (takes found given) me.0, (step.word, Some given) ∷ me.1)))
@@ -152,7 +151,7 @@ module _ {R K : Type 0} where
   abbrev pub looked : (fits : K → ℕ → R → Type 0) → Tells R K
   looked fits step me found after =
       took_value fits step me found after
-      ⊎ (((found ≡ word_with 1 me.0) ⊎ (found ≡ word_with 2 me.0)) × (after ≡ (on_desk (loads found) me.0, me.1)))
+      ⊎ (((found ≡ word_with WAITING_TAG me.0) ⊎ (found ≡ word_with CLAIMED_TAG me.0)) × (after ≡ (on_desk (loads found) me.0, me.1)))
 
   abbrev pub emptied : Tells R K
   emptied step me found after = after ≡ (on_desk empties me.0, rest me.1)
@@ -163,13 +162,13 @@ module _ {R K : Type 0} where
   -- the exchange found the id claimed or done, which is a load
   abbrev pub met : Tells R K
   met step me found after =
-      ((found ≡ word_with 2 me.0) ⊎ (found ≡ word_with 3 me.0)) × (after ≡ (on_desk (loads found) me.0, me.1))
+      ((found ≡ word_with CLAIMED_TAG me.0) ⊎ (found ≡ word_with DONE_TAG me.0)) × (after ≡ (on_desk (loads found) me.0, me.1))
 
   -- the id that waited is lost, with the number that was seen last; else done was found, or the id is claimed
   abbrev pub lost_id : (fits : K → ℕ → R → Type 0) → Tells R K
   lost_id fits step me found after =
       MatchBool (found == step.first) (after ≡ (on_desk (λ desk. frees_with found (end.Lost desk.log.reads.lost) desk) me.0, me.1))
-      (took_value fits step me found after ⊎ ((found ≡ word_with 2 me.0) × (after ≡ (on_desk (loads found) me.0, me.1))))
+      (took_value fits step me found after ⊎ ((found ≡ word_with CLAIMED_TAG me.0) × (after ≡ (on_desk (loads found) me.0, me.1))))
 
   abbrev pub left_id : Tells R K
   left_id step me found after = MatchBool (found == step.first) (after ≡ (on_desk (frees_with found end.Freed) me.0, me.1)) (met step me found after)
@@ -191,15 +190,15 @@ module _ {R K : Type 0} where
   abbrev pub claimed_one : Tells R K
   claimed_one step me found after =
       MatchBool (found == step.first)
-      ((given : Taken R) × (step.said ≡ maybe.some (Some given)) × (after ≡ (on_window (claims_with (step.first / 4 - 1) given []) me.0, (step.word, None) ∷ me.1)))
+      ((given : Taken R) × (step.said ≡ maybe.some (Some given)) × (after ≡ (on_window (claims_with (id_in step.first) given []) me.0, (step.word, None) ∷ me.1)))
       (IsStateWord found × (after ≡ (on_window (sees_with (Word step.word found ∷ [])) me.0, me.1)))
 
   -- and the slot is that of the id
   abbrev pub claimed_due : Tells R K
   claimed_due step me found after =
       MatchBool (found == step.first)
-      ((given : Taken R) × (step.said ≡ maybe.some (Some given)) × (slot_of step.slots (step.first / 4 - 1) ≡ step.word)
-      × (after ≡ (on_window (λ window. claims_with (step.first / 4 - 1) given (change_last claimed_sight window.log.sights) window) me.0, (step.word, None) ∷ me.1)))
+      ((given : Taken R) × (step.said ≡ maybe.some (Some given)) × (slot_of step.slots (id_in step.first) ≡ step.word)
+      × (after ≡ (on_window (λ window. claims_with (id_in step.first) given (change_last claimed_sight window.log.sights) window) me.0, (step.word, None) ∷ me.1)))
       (IsStateWord found × (after ≡ (on_window (λ window. sees_with (change_last (missed_sight found) window.log.sights) window) me.0, me.1)))
 
   abbrev pub put : Tells R K

@@ -1,11 +1,11 @@
 -- The rule of the shared table: there is a model of its desks, windows and slots, whose parts are what the seats know.
-use Rattle.std.specs.Prelude.{◌≡◌, ◌≢◌, ◌⊎◌, ℕ, ◌+◌, ◌*◌, ◌/◌, ◌-◌, ◌<◌, ◌≤◌, ◌^◌, ◌==◌, Option, Some, None, Bool, true, false, if◌then◌else◌, List, length, slice_get, slice_index}
+use Rattle.std.specs.Prelude.{◌≡◌, ◌≢◌, ◌⊎◌, ℕ, ◌+◌, ◌*◌, ◌-◌, ◌<◌, ◌≤◌, ◌^◌, ◌==◌, Option, Some, None, Bool, true, false, if◌then◌else◌, List, length, slice_get, slice_index}
 use mathlib.Core.Option as maybe
 use lib.ListN.{get_elem?}
 use Rattle.atomic_table.specs.Table.{State}
 use Rattle.pending_table.specs.DeskLogs.{opening}
 use Rattle.pending_table.specs.WindowLogs.{claim}
-use Rattle.pending_table.specs.Words.{slot_of}
+use Rattle.pending_table.specs.Words.{FREE_TAG, WAITING_TAG, CLAIMED_TAG, DONE_TAG, packed, last_in, slot_of}
 use Rattle.pending_table.specs.declared.answers.Taken.{Taken}
 use Rattle.pending_table.specs.declared.answers.Taken.TheVariants.{Reply, Timeout, Broken, NoMemory}
 use Rattle.pending_table.specs.declared.logs.Claim.{Claim}
@@ -29,15 +29,15 @@ pub data Phase (R : Type 0) : Type 0 where
 
 module _ {R : Type 0} where
   abbrev pub tag_of : Phase R → ℕ
-  tag_of free = 0
-  tag_of waiting = 1
-  tag_of (claimed number given) = 2
-  tag_of (done given) = 3
-  tag_of (taken given) = 3
+  tag_of free = FREE_TAG
+  tag_of waiting = WAITING_TAG
+  tag_of (claimed number given) = CLAIMED_TAG
+  tag_of (done given) = DONE_TAG
+  tag_of (taken given) = DONE_TAG
 
   -- the state word, where one more than the last id is this
   abbrev pub shown_word : ℕ → Phase R → ℕ
-  shown_word last phase = 4 * last + tag_of phase
+  shown_word last phase = packed last (tag_of phase)
 
   -- what lies in the slot, where it is at home
   abbrev pub home_of : Phase R → maybe.Option (Option (Taken R))
@@ -122,7 +122,7 @@ module _ {R K : Type 0} (fits : K → ℕ → R → Type 0) (key : K) (slots : �
 
   -- what a window saw of a slot is no later than the slot, and a deadline that it saw is that of the id, while it waits
   abbrev pub IsSeen : List (DeskPart R) → List (Phase R) → Sight → Type 0
-  IsSeen desks phases (Word slot word) = (desk : DeskPart R) → slice_get desks slot ≡ Some desk → word / 4 ≤ desk.log.last
+  IsSeen desks phases (Word slot word) = (desk : DeskPart R) → slice_get desks slot ≡ Some desk → last_in word ≤ desk.log.last
   IsSeen desks phases (Due slot id deadline) =
       (desk : DeskPart R) (phase : Phase R) → slice_get desks slot ≡ Some desk → slice_get phases slot ≡ Some phase
       → (id + 1 ≤ desk.log.last) × (desk.log.last ≡ id + 1 → phase ≡ waiting → desk.log.deadline ≡ deadline)
@@ -154,6 +154,7 @@ module _ {R K : Type 0} (fits : K → ℕ → R → Type 0) (key : K) (slots : �
   pub record Ledger (desks : List (DeskPart R)) (windows : List (WindowPart R)) (phases : List (Phase R)) (lost setter : ℕ) : Type 0 where
     pub desk_count : length desks ≡ slots
     pub phase_count : length phases ≡ slots
+    pub window_count : length windows ≡ 3
     pub some_slot : 0 < slots
     pub sits : (slot : ℕ) (desk : DeskPart R) (phase : Phase R) → slice_get desks slot ≡ Some desk → slice_get phases slot ≡ Some phase → Sits windows lost slot desk phase
     pub works : (number : ℕ) (window : WindowPart R) → slice_get windows number ≡ Some window → Works desks phases lost setter number window

@@ -1,6 +1,6 @@
 -- What a window's calls do, by its records before and after.
 use Rattle.std.specs.Prelude.{◌≡◌, ◌≢◌, ◌⊎◌, ℕ, ◌<◌, ◌≤◌, Some, List, [], ◌∷◌, length, slice_get}
-use Rattle.pending_table.specs.Words.{word_of, slot_of, tag_of, WAITING_TAG}
+use Rattle.pending_table.specs.Words.{word_of, slot_of, tag_in, WAITING_TAG}
 use Rattle.pending_table.specs.WindowLogs.{saw_log, claimed_log, expired_log, set_log, kept_log}
 use Rattle.pending_table.specs.declared.answers.Offered.{Offered}
 use Rattle.pending_table.specs.declared.answers.Offered.TheVariants as offered
@@ -13,7 +13,7 @@ use Rattle.pending_table.specs.declared.word.SlotState.TheVariants as state
 -- What a scan at this moment has seen of a slot by its end: a word that shows no id waiting; a deadline
 -- that is still to come; or one that has come, and the id was claimed or the claim found another word.
 abbrev pub IsChecked : ℕ → ℕ → Sight → Type 0
-IsChecked now slot (Word at word) = (at ≡ slot) × (tag_of word ≢ WAITING_TAG)
+IsChecked now slot (Word at word) = (at ≡ slot) × (tag_in word ≢ WAITING_TAG)
 IsChecked now slot (Due at id deadline) = (at ≡ slot) × (now < deadline)
 IsChecked now slot (Claimed at id deadline) = (at ≡ slot) × (deadline ≤ now)
 IsChecked now slot (Missed at id deadline word) = (at ≡ slot) × (deadline ≤ now) × (word ≢ word_of (state.Waiting id))

@@ -20,7 +20,7 @@ pub use fitting::{Fits, Tag};
 pub use logs::{Claim, DeskLog, End, Ended, Opened, Reads, Sight, WindowLog};
 pub use plain::{PlainDesk, PlainTable, PlainWindow};
 pub use shared::{
-    DeskPart, DeskSeat, SharedDesk, SharedTable, SharedWindow, TableKey, View, WindowPart,
+    Closed, DeskPart, DeskSeat, SharedDesk, SharedTable, SharedWindow, TableKey, View, WindowPart,
     WindowSeat,
 };
 pub use sides::{Desk, Window};

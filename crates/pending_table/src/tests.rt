@@ -4,6 +4,7 @@ ghost use Rattle.std.specs.Prelude.{◌≡◌, ◌<◌, ◌≤◌, ◌^◌, ℕ,
 
 mod plain;
 mod shared;
+mod threads;
 
 use crate::word::{SlotState, from_word};
 use crate::{Abandoned, Desk, Look, Offered, Tag, Taken, Window};

@@ -1,5 +1,5 @@
 //! The desk of a slot of a table that threads share.
-ghost use Rattle.std.specs.Prelude.{◌≡◌, ℕ, ◌<◌, ◌≤◌, ◌^◌, true, None, []};
+ghost use Rattle.std.specs.Prelude.{◌≡◌, ℕ, ◌<◌, ◌≤◌, ◌^◌, true, None, [], length};
 ghost use Rattle.pending_table.specs.Seats.{IsDeskOf, IsSeated};
 ghost use Rattle.pending_table.specs.SharedPlays.{the_desk};
 
@@ -16,22 +16,25 @@ pub struct SharedDesk<'a, R: Fits> {
     pub(crate) slot: u32,
     /// One more than the last id that was opened, or 0 where none was.
     pub(crate) last: u64,
+    /// How many ids were opened.
+    pub(crate) opened: u64,
     ghost seated: { IsSeated words.now.table_id words.now.key.slots seat.table_id },
     ghost inside: { (words.now.key.slots ≡ slots) × (slot < slots) },
     ghost view_is: { IsDeskOf words.now.key.key.value slot seat.me.0 },
     ghost bare: { seat.me.1 ≡ [] },
     ghost last_is: { ((the_desk seat.me.0).log.last ≡ last) × (last ≤ 2 ^ 60) },
+    ghost counted: { (length (the_desk seat.me.0).log.opened ≡ opened) × (opened ≤ last) },
     ghost begun: { (the_desk seat.me.0).log.is_open ≡ true → 0 < last },
     ghost untaken: { (the_desk seat.me.0).taken ≡ None },
 }
 
 impl<'a, R: Fits> SharedDesk<'a, R> {
-    ghost use Rattle.pending_table.specs.NewSeats.{IsOwn};
+    ghost use Rattle.pending_table.specs.TableSeats.{IsDeskSeat, desk_log, desk_site, log_of};
 
     /// Its seat, for another desk of the same slot.
     pub fn into_seat(self) -> DeskSeat<R>
-        ensures own { IsOwn self.entry.words.now.table_id self.entry.words.now.key.key.value result.seat.table_id result.seat.me.0.key }
-        ensures same { (result.slot ≡ self.entry.slot) × (result.last ≡ self.entry.last) × (result.seat ≡ self.entry.seat) }
+        ensures own { IsDeskSeat (desk_site self.entry) result }
+        ensures log { log_of result ≡ desk_log self.entry }
     {
         let SharedDesk {
             words: _,
@@ -39,18 +42,24 @@ impl<'a, R: Fits> SharedDesk<'a, R> {
             slots: _,
             slot,
             last,
+            opened,
         } = self;
-        DeskSeat { seat, slot, last }
+        DeskSeat {
+            seat,
+            slot,
+            last,
+            opened,
+        }
     }
 }
 
 impl<'a, R: Fits> Desk<R> for SharedDesk<'a, R> {
     ghost use Rattle.pending_table.specs.Beside.{untold};
-    ghost use Rattle.pending_table.specs.Sites.{shared_site};
+    ghost use Rattle.pending_table.specs.TableSeats.{desk_log, desk_site};
 
-    ghost site = { λ d. shared_site d.words.now.table_id d.words.now.key.key.value d.words.now.key.slots d.slot };
+    ghost site = { desk_site };
 
-    ghost log = { λ d. (the_desk d.seat.me.0).log };
+    ghost log = { desk_log };
 
     ghost next = { λ d. None };
 
@@ -66,13 +75,15 @@ impl<'a, R: Fits> Desk<R> for SharedDesk<'a, R> {
             deadline,
         );
         self.last = id + 1;
+        self.opened += 1;
     }
 
     fn look(&mut self) -> Look<R> {
-        look_at(self.words, &mut self.seat, self.slots, self.slot, self.last)
+        let id = self.last - 1;
+        look_at(self.words, &mut self.seat, self.slots, self.slot, id)
     }
 
     fn abandon(&mut self) -> Abandoned {
-        abandon_id(self.words, &mut self.seat, self.slot, self.last)
+        abandon_id(self.words, &mut self.seat, self.slot, self.last - 1)
     }
 }

@@ -12,6 +12,7 @@ use crate::shared::desk_steps::{
 };
 use crate::shared::meaning::Meaning;
 use crate::shared::{PartSeat, Words};
+use crate::word::{SlotState, to_word};
 use crate::{Abandoned, Look, Taken};
 
 /// Opens an id: first its deadline is stored, then it is shown as waiting.
@@ -44,12 +45,12 @@ pub(crate) fn take_value<R: Meaning>(
     words: &Words<R>,
     seat: &mut PartSeat<R>,
     slot: u32,
-    last: u64,
+    id: u64,
 ) -> Taken<R>
     requires seated { IsSeated words.now.table_id words.now.key.slots seat.old.table_id }
     requires inside { slot < words.now.key.slots }
     requires desk { IsDeskOf words.now.key.key.value slot seat.old.me.0 }
-    requires last { ((the_desk seat.old.me.0).log.last ≡ last) × (last ≤ 2 ^ 60) }
+    requires last { ((the_desk seat.old.me.0).log.last ≡ id + 1) × (id < 2 ^ 60) }
     requires taken { (the_desk seat.old.me.0).taken ≢ None }
     requires holds { seat.old.me.1 ≡ (slot, (the_desk seat.old.me.0).taken) ∷ rest seat.old.me.1 }
     ensures table { seat.new.table_id ≡ seat.old.table_id }
@@ -57,7 +58,7 @@ pub(crate) fn take_value<R: Meaning>(
     ensures me { seat.new.me ≡ (on_desk empties seat.old.me.0, rest seat.old.me.1) }
 {
     let was = words.exchange(seat, slot as usize, None);
-    store_free(words, seat, slot, last);
+    store_free(words, seat, slot, id);
     match was {
         Some(given) => given,
         None => unreachable!(),
@@ -70,23 +71,23 @@ pub(crate) fn look_at<R: Meaning>(
     seat: &mut PartSeat<R>,
     slots: u32,
     slot: u32,
-    last: u64,
+    id: u64,
 ) -> Look<R>
     requires seated { IsSeated words.now.table_id words.now.key.slots seat.old.table_id }
     requires inside { (words.now.key.slots ≡ slots) × (slot < slots) }
     requires desk { IsDeskOf words.now.key.key.value slot seat.old.me.0 }
-    requires last { ((the_desk seat.old.me.0).log.last ≡ last) × (0 < last) × (last ≤ 2 ^ 60) }
+    requires last { ((the_desk seat.old.me.0).log.last ≡ id + 1) × (id < 2 ^ 60) }
     requires open { ((the_desk seat.old.me.0).log.is_open ≡ true) × ((the_desk seat.old.me.0).taken ≡ None) }
     ensures answer { Looks R.fits words.now.key.key.value (the_desk seat.old.me.0).log result (the_desk seat.new.me.0).log }
     ensures desk { IsDeskOf words.now.key.key.value slot seat.new.me.0 }
     ensures same { (seat.new.table_id ≡ seat.old.table_id) × (seat.new.me.1 ≡ seat.old.me.1)
         × ((the_desk seat.new.me.0).taken ≡ None) }
 {
-    let claimed = 4 * last + 2;
-    let done = 4 * last + 3;
+    let claimed = to_word(SlotState::Claimed { id });
+    let done = to_word(SlotState::Done { id });
     let found = load_state(words, seat, slot);
     if found == done {
-        return Look::Ready(take_value(words, seat, slot, last));
+        return Look::Ready(take_value(words, seat, slot, id));
     }
     if found == claimed {
         return Look::Pending;
@@ -95,9 +96,9 @@ pub(crate) fn look_at<R: Meaning>(
     if number == 0 {
         return Look::Pending;
     }
-    let met = lose_waiting(words, seat, slot, last);
+    let met = lose_waiting(words, seat, slot, id);
     if met == done {
-        return Look::Ready(take_value(words, seat, slot, last));
+        return Look::Ready(take_value(words, seat, slot, id));
     }
     if met == claimed {
         return Look::Pending;
@@ -110,20 +111,20 @@ pub(crate) fn abandon_id<R: Meaning>(
     words: &Words<R>,
     seat: &mut PartSeat<R>,
     slot: u32,
-    last: u64,
+    id: u64,
 ) -> Abandoned
     requires seated { IsSeated words.now.table_id words.now.key.slots seat.old.table_id }
     requires inside { slot < words.now.key.slots }
     requires desk { IsDeskOf words.now.key.key.value slot seat.old.me.0 }
-    requires last { ((the_desk seat.old.me.0).log.last ≡ last) × (0 < last) × (last ≤ 2 ^ 60) }
+    requires last { ((the_desk seat.old.me.0).log.last ≡ id + 1) × (id < 2 ^ 60) }
     requires open { ((the_desk seat.old.me.0).log.is_open ≡ true) × ((the_desk seat.old.me.0).taken ≡ None) }
     ensures answer { Leaves (the_desk seat.old.me.0).log result (the_desk seat.new.me.0).log }
     ensures desk { IsDeskOf words.now.key.key.value slot seat.new.me.0 }
     ensures same { (seat.new.table_id ≡ seat.old.table_id) × (seat.new.me.1 ≡ seat.old.me.1)
         × ((the_desk seat.new.me.0).taken ≡ None) }
 {
-    let waiting = 4 * last + 1;
-    let found = leave_waiting(words, seat, slot, last);
+    let waiting = to_word(SlotState::Waiting { id });
+    let found = leave_waiting(words, seat, slot, id);
     if found == waiting {
         return Abandoned::Free;
     }

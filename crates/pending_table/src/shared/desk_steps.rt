@@ -1,16 +1,18 @@
 //! The steps of a desk at its slot's words, one function each.
-ghost use Rattle.std.specs.Prelude.{◌≡◌, ◌≢◌, ℕ, ◌+◌, ◌-◌, ◌*◌, ◌<◌, ◌≤◌, ◌^◌, true, false, Some, None, ◌∷◌};
+ghost use Rattle.std.specs.Prelude.{◌≡◌, ◌≢◌, ℕ, ◌+◌, ◌*◌, ◌<◌, ◌≤◌, ◌^◌, true, false, None, ◌∷◌};
 ghost use mathlib.Core.Option.{none};
 ghost use Rattle.atomic_table.specs.Table.{rest, step};
 ghost use Rattle.pending_table.specs.Seats.{IsDeskOf, IsSeated};
 ghost use Rattle.pending_table.specs.SharedPlays.{the_desk, dated, opened, looked, emptied, asked_lost, lost_id, left_id};
-ghost use Rattle.pending_table.specs.Words.{slot_of};
+ghost use Rattle.pending_table.specs.Words.{slot_of, word_of};
+ghost use Rattle.pending_table.specs.declared.word.SlotState.TheVariants as state;
 
 use crate::shared::meaning::Meaning;
 use crate::shared::plays::{
     DeskAsksLost, DeskDates, DeskEmpties, DeskLeavesId, DeskLooks, DeskLosesId, DeskOpens,
 };
 use crate::shared::{PartSeat, Words};
+use crate::word::{SlotState, to_word};
 
 /// Stores the deadline of the next id.
 pub(crate) fn store_deadline<R: Meaning>(
@@ -45,9 +47,10 @@ pub(crate) fn store_waiting<R: Meaning>(
     requires small { id < 2 ^ 60 }
     requires place { slot_of words.now.key.slots id ≡ slot }
     ensures table { seat.new.table_id ≡ seat.old.table_id }
-    ensures told { opened (step words.now.table_id.slots slot (4 * (id + 1) + 1) 0 none) seat.old.me (4 * (id + 1) + 1) seat.new.me }
+    ensures told { opened (step words.now.table_id.slots slot (word_of (state.Waiting id)) 0 none) seat.old.me (word_of (state.Waiting id)) seat.new.me }
 {
-    words.store::<DeskOpens>(seat, slot as usize, 4 * (id + 1) + 1);
+    let waiting = to_word(SlotState::Waiting { id });
+    words.store::<DeskOpens>(seat, slot as usize, waiting);
 }
 
 /// Loads the state of the open id, and has the slot's turn where that is done.
@@ -63,17 +66,18 @@ pub(crate) fn load_state<R: Meaning>(words: &Words<R>, seat: &mut PartSeat<R>, s
 }
 
 /// Stores free, after the value was taken out of the slot.
-pub(crate) fn store_free<R: Meaning>(words: &Words<R>, seat: &mut PartSeat<R>, slot: u32, last: u64)
+pub(crate) fn store_free<R: Meaning>(words: &Words<R>, seat: &mut PartSeat<R>, slot: u32, id: u64)
     requires seated { IsSeated words.now.table_id words.now.key.slots seat.old.table_id }
     requires inside { slot < words.now.key.slots }
     requires desk { IsDeskOf words.now.key.key.value slot seat.old.me.0 }
-    requires last { ((the_desk seat.old.me.0).log.last ≡ last) × (last ≤ 2 ^ 60) }
+    requires last { ((the_desk seat.old.me.0).log.last ≡ id + 1) × (id < 2 ^ 60) }
     requires taken { (the_desk seat.old.me.0).taken ≢ None }
     requires emptied { seat.old.me.1 ≡ (slot, None) ∷ rest seat.old.me.1 }
     ensures table { seat.new.table_id ≡ seat.old.table_id }
-    ensures told { emptied (step words.now.table_id.slots slot (4 * last) 0 none) seat.old.me (4 * last) seat.new.me }
+    ensures told { emptied (step words.now.table_id.slots slot (word_of (state.Free id)) 0 none) seat.old.me (word_of (state.Free id)) seat.new.me }
 {
-    words.store::<DeskEmpties>(seat, slot as usize, 4 * last);
+    let free = to_word(SlotState::Free { id });
+    words.store::<DeskEmpties>(seat, slot as usize, free);
 }
 
 /// Loads the lost word.
@@ -92,18 +96,20 @@ pub(crate) fn lose_waiting<R: Meaning>(
     words: &Words<R>,
     seat: &mut PartSeat<R>,
     slot: u32,
-    last: u64,
+    id: u64,
 ) -> u64
     requires seated { IsSeated words.now.table_id words.now.key.slots seat.old.table_id }
     requires inside { slot < words.now.key.slots }
     requires desk { IsDeskOf words.now.key.key.value slot seat.old.me.0 }
-    requires last { ((the_desk seat.old.me.0).log.last ≡ last) × (last ≤ 2 ^ 60) }
+    requires last { ((the_desk seat.old.me.0).log.last ≡ id + 1) × (id < 2 ^ 60) }
     requires open { ((the_desk seat.old.me.0).log.is_open ≡ true) × ((the_desk seat.old.me.0).taken ≡ None) }
     requires lost { (the_desk seat.old.me.0).log.reads.lost ≢ 0 }
     ensures table { seat.new.table_id ≡ seat.old.table_id }
-    ensures told { lost_id R.fits (step words.now.table_id.slots slot (4 * last + 1) (4 * last) none) seat.old.me result seat.new.me }
+    ensures told { lost_id R.fits (step words.now.table_id.slots slot (word_of (state.Waiting id)) (word_of (state.Free id)) none) seat.old.me result seat.new.me }
 {
-    words.compare_exchange::<DeskLosesId>(seat, slot as usize, 4 * last + 1, 4 * last)
+    let waiting = to_word(SlotState::Waiting { id });
+    let free = to_word(SlotState::Free { id });
+    words.compare_exchange::<DeskLosesId>(seat, slot as usize, waiting, free)
 }
 
 /// Frees the id where it waits.
@@ -111,15 +117,17 @@ pub(crate) fn leave_waiting<R: Meaning>(
     words: &Words<R>,
     seat: &mut PartSeat<R>,
     slot: u32,
-    last: u64,
+    id: u64,
 ) -> u64
     requires seated { IsSeated words.now.table_id words.now.key.slots seat.old.table_id }
     requires inside { slot < words.now.key.slots }
     requires desk { IsDeskOf words.now.key.key.value slot seat.old.me.0 }
-    requires last { ((the_desk seat.old.me.0).log.last ≡ last) × (last ≤ 2 ^ 60) }
+    requires last { ((the_desk seat.old.me.0).log.last ≡ id + 1) × (id < 2 ^ 60) }
     requires open { ((the_desk seat.old.me.0).log.is_open ≡ true) × ((the_desk seat.old.me.0).taken ≡ None) }
     ensures table { seat.new.table_id ≡ seat.old.table_id }
-    ensures told { left_id (step words.now.table_id.slots slot (4 * last + 1) (4 * last) none) seat.old.me result seat.new.me }
+    ensures told { left_id (step words.now.table_id.slots slot (word_of (state.Waiting id)) (word_of (state.Free id)) none) seat.old.me result seat.new.me }
 {
-    words.compare_exchange::<DeskLeavesId>(seat, slot as usize, 4 * last + 1, 4 * last)
+    let waiting = to_word(SlotState::Waiting { id });
+    let free = to_word(SlotState::Free { id });
+    words.compare_exchange::<DeskLeavesId>(seat, slot as usize, waiting, free)
 }

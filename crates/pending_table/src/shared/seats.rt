@@ -1,7 +1,7 @@
 //! The seats of a new table, which its threads take with them.
 ghost use Rattle.std.specs.Prelude.{◌≡◌, ℕ, ◌+◌, ◌*◌, ◌<◌, ◌≤◌, ◌^◌, true, Some, None, [], length, vec_capacity};
 ghost use Rattle.pending_table.specs.Cutting.{view_from, windows_from};
-ghost use Rattle.pending_table.specs.NewSeats.{EachAt};
+ghost use Rattle.pending_table.specs.Elements.{EachAt};
 ghost use Rattle.pending_table.specs.Seats.{IsSeated, one_desk, one_window};
 ghost use Rattle.pending_table.specs.SharedPlays.{the_desk, the_window};
 ghost use Rattle.pending_table.specs.SharedViews.{blank_desk, blank_part};
@@ -17,10 +17,13 @@ pub struct DeskSeat<R: Meaning> {
     pub(crate) slot: u32,
     /// One more than the last id that was opened, or 0 where none was.
     pub(crate) last: u64,
+    /// How many ids were opened.
+    pub(crate) opened: u64,
     ghost inside: { 2 * slot + 1 < seat.table_id.words },
     ghost alone: { (seat.me.0 ≡ one_desk seat.me.0.key (the_desk seat.me.0)) × ((the_desk seat.me.0).slot ≡ slot) },
     ghost bare: { seat.me.1 ≡ [] },
     ghost last_is: { ((the_desk seat.me.0).log.last ≡ last) × (last ≤ 2 ^ 60) },
+    ghost counted: { (length (the_desk seat.me.0).log.opened ≡ opened) × (opened ≤ last) },
     ghost begun: { (the_desk seat.me.0).log.is_open ≡ true → 0 < last },
     ghost untaken: { (the_desk seat.me.0).taken ≡ None },
 }
@@ -55,6 +58,7 @@ pub(crate) fn desk_seats<R: Meaning>(
             seat,
             slot,
             last: 0,
+            opened: 0,
         });
     }
     seats

@@ -20,12 +20,12 @@ pub struct SharedWindow<'a, R: Fits> {
 }
 
 impl<'a, R: Fits> SharedWindow<'a, R> {
-    ghost use Rattle.pending_table.specs.NewSeats.{IsOwn};
+    ghost use Rattle.pending_table.specs.TableSeats.{IsWindowSeat, window_log, window_log_of, window_site};
 
     /// Its seat, for another window.
     pub fn into_seat(self) -> WindowSeat<R>
-        ensures own { IsOwn self.entry.words.now.table_id self.entry.words.now.key.key.value result.seat.table_id result.seat.me.0.key }
-        ensures same { result.seat ≡ self.entry.seat }
+        ensures own { IsWindowSeat (window_site self.entry) result }
+        ensures log { window_log_of result ≡ window_log self.entry }
     {
         let SharedWindow {
             words: _,
@@ -38,13 +38,13 @@ impl<'a, R: Fits> SharedWindow<'a, R> {
 
 impl<'a, R: Fits> Window<R> for SharedWindow<'a, R> {
     ghost use Rattle.pending_table.specs.Beside.{untold};
-    ghost use Rattle.pending_table.specs.Sites.{shared_site};
+    ghost use Rattle.pending_table.specs.TableSeats.{window_log, window_site};
     ghost use Rattle.pending_table.specs.Taken.{IsOfferable};
     ghost use Rattle.pending_table.specs.WindowAnswers.{Offers};
 
-    ghost site = { λ w. shared_site w.words.now.table_id w.words.now.key.key.value w.words.now.key.slots (the_window w.seat.me.0).number };
+    ghost site = { window_site };
 
-    ghost log = { λ w. (the_window w.seat.me.0).log };
+    ghost log = { window_log };
 
     ghost beside = { λ w. untold };
 

@@ -11,6 +11,7 @@ use crate::shared::window_steps::{
     claim_due, claim_offered, load_deadline, load_next, load_one, set_number, store_done,
 };
 use crate::shared::{PartSeat, Words};
+use crate::word::{SlotState, from_word, to_word};
 use crate::{Offered, Taken};
 
 /// Marks the link as lost, where it isn't marked yet.
@@ -52,7 +53,7 @@ pub(crate) fn offer<R: Meaning>(
         let seen = load_one(words, seat, slot);
         return Offered::Dropped { seen, given };
     }
-    let waiting = 4 * (id + 1) + 1;
+    let waiting = to_word(SlotState::Waiting { id });
     let offered = Some(given);
     let found = claim_offered(words, seat, slot, id, &offered);
     if found == waiting {
@@ -80,14 +81,13 @@ fn scan_slot<R: Meaning>(words: &Words<R>, seat: &mut PartSeat<R>, slots: u32, s
     ensures number { (the_window seat.new.me.0).number ≡ (the_window seat.old.me.0).number }
 {
     let word = load_next(words, seat, slot);
-    if word % 4 != 1 {
+    let SlotState::Waiting { id } = from_word(word) else {
         return;
-    }
-    let deadline = load_deadline(words, seat, slots, slot, word);
+    };
+    let deadline = load_deadline(words, seat, slots, slot, id);
     if now < deadline {
         return;
     }
-    let id = word / 4 - 1;
     let given = Some(Taken::Timeout {
         deadline,
         moment: now,

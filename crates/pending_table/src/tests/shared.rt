@@ -1,9 +1,9 @@
 //! The lists of calls at a table that threads share.
-ghost use Rattle.std.specs.Prelude.{◌≡◌, ℕ, Some, [], length};
-ghost use Rattle.pending_table.specs.NewSeats.{EachAt};
-ghost use Rattle.pending_table.specs.Seats.{one_desk, one_window};
-ghost use Rattle.pending_table.specs.SharedPlays.{the_desk};
-ghost use Rattle.pending_table.specs.SharedViews.{blank_desk, blank_part};
+ghost use Rattle.std.specs.Prelude.{◌≡◌, ℕ, length};
+ghost use Rattle.pending_table.specs.DeskLogs.{blank_log};
+ghost use Rattle.pending_table.specs.Elements.{EachAt};
+ghost use Rattle.pending_table.specs.TableSeats.{IsDeskSeat, IsWindowSeat, desk_log, desk_site, log_of, site_at, window_log_of};
+ghost use Rattle.pending_table.specs.WindowLogs.{blank_window};
 
 use crate::tests::{
     Answer, Call, Driver, Known, at_desk, at_window, runs_abandoned, runs_due, runs_lost,
@@ -18,9 +18,9 @@ struct Sides<'a> {
     desk: SharedDesk<'a, Tag>,
     window: SharedWindow<'a, Tag>,
     known: Known,
-    ghost one: { (desk.words.now.key.slots ≡ 1) × (desk.slot ≡ 0) },
-    ghost last: { (the_desk desk.seat.me.0).log.last ≡ known.last },
-    ghost is_open: { (the_desk desk.seat.me.0).log.is_open ≡ known.is_open },
+    ghost one: { ((desk_site desk).slots ≡ 1) × ((desk_site desk).number ≡ 0) },
+    ghost last: { (desk_log desk).last ≡ known.last },
+    ghost is_open: { (desk_log desk).is_open ≡ known.is_open },
 }
 
 impl<'a> Driver for Sides<'a> {
@@ -41,10 +41,10 @@ fn sit<'a>(
     mut desks: Vec<DeskSeat<Tag>>,
     mut windows: Vec<WindowSeat<Tag>>,
 ) -> Sides<'a>
-    requires one { table.now.slots ≡ 1 }
+    requires one { (site_at table.now 0).slots ≡ 1 }
     requires counts { (length desks.items ≡ 1) × (length windows.items ≡ 3) }
-    requires desks { EachAt (λ slot seat. (seat.slot ≡ slot) × (seat.seat.table_id ≡ table.now.table.shared.table_id) × (seat.seat.me ≡ (one_desk (Some table.now.table.shared.key.key.value) (blank_desk slot), []))) desks.items }
-    requires windows { EachAt (λ number seat. (seat.seat.table_id ≡ table.now.table.shared.table_id) × (seat.seat.me ≡ (one_window (Some table.now.table.shared.key.key.value) (blank_part number), []))) windows.items }
+    requires desks { EachAt (λ slot seat. IsDeskSeat (site_at table.now slot) seat × (log_of seat ≡ blank_log)) desks.items }
+    requires windows { EachAt (λ number seat. IsWindowSeat (site_at table.now number) seat × (window_log_of seat ≡ blank_window)) windows.items }
 {
     let desk = desks.swap_remove(0);
     let window = windows.swap_remove(0);

@@ -1,6 +1,6 @@
 use Rattle.std.proofs.Common.{◌≡◌, ◌≤◌, Some, [], length, vec_capacity}
 use Rattle.pending_table.specs.Cutting.{view_from}
-use Rattle.pending_table.specs.NewSeats.{EachAt}
+use Rattle.pending_table.specs.Elements.{EachAt}
 use Rattle.pending_table.specs.Seats.{one_desk}
 use Rattle.pending_table.specs.SharedViews.{blank_desk}
 use Rattle.pending_table.proofs.shared.seats.desk_seats.Given as goal

@@ -1,6 +1,6 @@
 use Rattle.std.proofs.Common.{◌≡◌, ◌≤◌, Some, [], length, vec_capacity}
 use Rattle.pending_table.specs.Cutting.{windows_from}
-use Rattle.pending_table.specs.NewSeats.{EachAt}
+use Rattle.pending_table.specs.Elements.{EachAt}
 use Rattle.pending_table.specs.Seats.{one_window}
 use Rattle.pending_table.specs.SharedViews.{blank_part}
 use Rattle.pending_table.proofs.shared.seats.window_seats.Given as goal

@@ -1,0 +1,10 @@
+use Rattle.std.proofs.Common.{◌≡◌}
+use Rattle.pending_table.specs.Gathering.{AreDesksOf}
+use Rattle.pending_table.proofs.SharedGathers.{Desks}
+use Rattle.pending_table.proofs.shared.closing.gather_desks.Given as goal
+
+abbrev pub invariant-loop-next : goal.invariant-loop-next
+invariant-loop-next g l = (l.whole.table_id ≡ l.fn.words.table_id) × Desks l.fn.seats.items l.seats.items l.whole.me l.count × AreDesksOf l.fn.words.table_id l.seats.items
+
+abbrev pub decreases-loop-next : goal.decreases-loop-next
+decreases-loop-next g l = goal.left-loop-next g l
