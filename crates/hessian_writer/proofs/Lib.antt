@@ -1,0 +1,17 @@
+pub mod Trees
+pub mod Numbers
+pub mod Shared
+pub mod Steps
+pub mod Pairs
+pub mod LeafLaws
+pub mod Appended
+pub mod ClassKeys
+pub mod Heading
+pub mod Runs
+pub mod Writers
+pub mod Shortness
+pub mod NodeHeads
+pub mod SomeScalars
+pub mod SomeForms
+pub mod SomeCourses
+pub mod Carrying

@@ -1,0 +1,10 @@
+pub mod Leaves
+pub mod Writable
+pub mod Numbered
+pub mod Sharing
+pub mod Appending
+pub mod Heads
+pub mod Course
+pub mod Progress
+pub mod Running
+pub mod Carried
