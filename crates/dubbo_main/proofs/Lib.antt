@@ -1,3 +1,12 @@
+pub mod Decodings
+pub mod Encodings
+pub mod Numbers
+pub mod OneCommand
+pub mod OnePlainStatus
 pub mod OneStatus
+pub mod PlainRows
+pub mod RingNames
+pub mod Ringing
 pub mod StatusRows
+pub mod Statuses
 pub mod TwoWords

@@ -1,35 +1,15 @@
--- No two statuses have their causes at once, the failed input and want of memory aside.
-use Rattle.std.proofs.Common.{◌≡◌, ◌≢◌, ◌⊎◌, ℕ, List, ◌++◌, Option, None, Some, refl, sym, ◌∙◌, subst, inl, inr, arith}
-use Rattle.std.proofs.lemmas.Bool.{false≢true}
-use Rattle.std.proofs.lemmas.List.{append_cancel_left}
+-- No two statuses of `play` have their causes at once, the failed input and want of memory aside.
+use Rattle.std.proofs.Common.{◌≡◌, ◌≢◌, ℕ, List, refl, subst, inl, inr}
 use Rattle.std.specs.Prelude.{IsSome}
-use Rattle.std.specs.Io.KnownBytes.{append_known}
-use Rattle.dubbo_io.specs.Source.{SourceState, GoesOn}
+use Rattle.dubbo_io.specs.Source.{SourceState}
 use Rattle.dubbo_play.specs.FirstScript.{IsFirstOther}
 use Rattle.dubbo_play.proofs.Laws.{read_or_refused}
-use Rattle.dubbo_io.specs.Sink.{SinkState}
-use Rattle.dubbo_main.specs.Statuses.{CallsFor, Comes, IsExact}
-use Rattle.dubbo_main.specs.Statuses.CallsFor.{played, other_words, refused, input_failed, no_memory, too_long}
-use Rattle.dubbo_main.specs.Play.{IsWhole, IsTooLong}
+use Rattle.dubbo_main.specs.PlayStatuses.{CallsFor}
+use Rattle.dubbo_main.specs.PlayStatuses.CallsFor.{played, other_words, refused, input_failed, no_memory, too_long}
+use Rattle.dubbo_main.proofs.Statuses.{GoesOn-once, IsOneStatus, IsThisOr3Or6, whole_or_long}
 
-known_once : (known after : Option (List ℕ)) (xs ys : List ℕ) → IsSome known → after ≡ append_known known xs → after ≡ append_known known ys → xs ≡ ys
-known_once None after xs ys told one other = absurd (false≢true told)
-known_once (Some front) after xs ys told one other =
-    let both : Some (front ++ xs) ≡ Some (front ++ ys) = sym one ∙ other in append_cancel_left front xs ys cc
-
--- a source that tells its bytes gave one list of bytes between two states
-pub GoesOn-once : {Badge : Type 0} (old new : SourceState Badge) (xs ys : List ℕ) → IsSome old.given → GoesOn old new xs → GoesOn old new ys → xs ≡ ys
-GoesOn-once old new xs ys told one other = known_once old.given new.given xs ys told one.given other.given
-
--- a whole input is not too long
-whole_or_long : {Badge : Type 0} (old new : SourceState Badge) (bytes : List ℕ) → IsWhole old new bytes → IsTooLong old new → ⊥
-whole_or_long old new bytes whole long = omega (arith, whole.goes_on.count, whole.within, long.1.count, long.2)
-
--- the status is this one, or the input failed, or memory was wanting
-abbrev IsThisOr3Or6 : ℕ → ℕ → Type 0
-IsThisOr3Or6 other status = (other ≡ status) ⊎ (other ≡ 3) ⊎ (other ≡ 6)
-
-one_status : {Badge : Type 0} (words : List (List ℕ)) (old new : SourceState Badge) (status other : ℕ) (text others_text : List ℕ) → IsSome old.given → status ≢ 3 → status ≢ 6 → CallsFor words old new status text → CallsFor words old new other others_text → IsThisOr3Or6 other status
+one_status : {Badge : Type 0} (words : List (List ℕ)) (old new : SourceState Badge) (status other : ℕ) (text others_text : List ℕ) → IsSome old.given → status ≢ 3 → status ≢ 6
+    → CallsFor words old new status text → CallsFor words old new other others_text → IsThisOr3Or6 other status
 one_status words old new _ _ _ _ told not_3 not_6 (input_failed _ _ _) _ = absurd (not_3 refl)
 one_status words old new _ _ _ _ told not_3 not_6 (no_memory _ _) _ = absurd (not_6 refl)
 one_status words old new _ _ _ _ told not_3 not_6 _ (input_failed _ _ _) = inr (inl refl)
@@ -55,15 +35,6 @@ one_status words old new _ _ _ _ told not_3 not_6 (refused _ _ is) (too_long _ l
 one_status words old new _ _ _ _ told not_3 not_6 (too_long _ long) (played bytes _ _ whole _) = absurd (whole_or_long old new bytes whole long)
 one_status words old new _ _ _ _ told not_3 not_6 (too_long _ long) (refused _ _ is) = absurd (whole_or_long old new is.0 is.1 long)
 
--- the status that a run came to is the one whose cause stands, unless an end failed or memory was wanting
-pub IsExact-Comes : {B C : Type 0} (words : List (List ℕ)) (old new : SourceState B) (before now : SinkState C) (result : ℕ) → Comes words old new before now result → IsExact words old new result
-IsExact-Comes words old new before now result comes told status text not_3 not_6 cause = elim comes.3 [
-  | inl written ↦ elim (one_status words old new status comes.0 text comes.1 told not_3 not_6 cause comes.2) [
-    | inl this ↦ inl (written.0 ∙ this)
-    | inr fault ↦ elim fault [
-      | inl input ↦ inr (inl (written.0 ∙ input))
-      | inr memory ↦ inr (inr (inr (written.0 ∙ memory)))
-    ]
-  ]
-  | inr failed ↦ inr (inr (inl failed.0))
-]
+-- the table of `play`, over an input that tells its bytes
+pub IsOneStatus-play : {Badge : Type 0} (words : List (List ℕ)) (old new : SourceState Badge) → IsSome old.given → IsOneStatus (CallsFor words old new)
+IsOneStatus-play words old new told = λ status other text others_text not_3 not_6 one two. one_status words old new status other text others_text told not_3 not_6 one two

@@ -4,8 +4,8 @@ use Rattle.dubbo_io.specs.Source.{SourceState}
 use Rattle.dubbo_main.specs.Words.{IsPlay}
 use Rattle.dubbo_main.specs.Play.{StopsPlaying}
 use Rattle.dubbo_main.specs.PlayFault.{status_of, line_of}
-use Rattle.dubbo_main.specs.Statuses.{CallsFor}
-use Rattle.dubbo_main.specs.Statuses.CallsFor.{refused, input_failed, no_memory, too_long}
+use Rattle.dubbo_main.specs.PlayStatuses.{CallsFor}
+use Rattle.dubbo_main.specs.PlayStatuses.CallsFor.{refused, input_failed, no_memory, too_long}
 use Rattle.dubbo_main.specs.declared.commands.play.PlayFault.{PlayFault}
 use Rattle.dubbo_main.specs.declared.commands.play.PlayFault.TheVariants.{Input, TooLong, NotBuilt, OutOfMemory}
 

@@ -1,5 +1,15 @@
+pub mod Decoding
+pub mod Encoding
 pub mod FaultLines
+pub mod FaultTexts
+pub mod Input
+pub mod PlainCommands
+pub mod PlainStatuses
 pub mod Play
 pub mod PlayFault
+pub mod PlayStatuses
+pub mod RingAsks
+pub mod RingLines
 pub mod Statuses
+pub mod Unread
 pub mod Words

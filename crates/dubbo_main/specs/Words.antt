@@ -1,6 +1,41 @@
--- What the words of the command line say.
-use Rattle.std.specs.Prelude.{◌≡◌, ℕ, List, [], ◌∷◌, codes}
+-- What the words of the command line say: the program's name, a command, and the command's options.
+use Rattle.std.specs.Prelude.{◌≡◌, ℕ, ◌≤◌, ◌⊎◌, ◌++◌, List, [], ◌∷◌, codes, decimal}
+use Rattle.dubbo_main.specs.declared.words.PlainCommand.{PlainCommand}
+use Rattle.dubbo_main.specs.declared.words.PlainCommand.TheVariants.{Decode, Encode, Ring}
 
 -- the words are the program's name and `play`
 abbrev pub IsPlay : List (List ℕ) → Type 0
 IsPlay words = (name : List ℕ) × (words ≡ name ∷ codes "play" ∷ [])
+
+-- the options are this one alone, with this value: as two words or as one
+abbrev pub IsOption : List ℕ → List ℕ → List (List ℕ) → Type 0
+IsOption name value options = (options ≡ (codes "--" ++ name) ∷ value ∷ [])
+    ⊎ (options ≡ (codes "--" ++ name ++ codes "=" ++ value) ∷ [])
+
+-- the options say how many roots: 1 where they say nothing, else up to 65,535 in decimal, with no leading zero
+abbrev pub HaveRoots : List (List ℕ) → ℕ → Type 0
+HaveRoots options roots = ((options ≡ []) × (roots ≡ 1))
+    ⊎ (IsOption (codes "roots") (decimal roots) options × (roots ≤ 65535))
+
+-- this word and the options behind it call for this command
+abbrev pub Calls : List ℕ → List (List ℕ) → PlainCommand → Type 0
+Calls word options (Decode roots) = (word ≡ codes "decode") × HaveRoots options roots
+Calls word options Encode = (word ≡ codes "encode") × (options ≡ [])
+Calls word options Ring = (word ≡ codes "ring") × (options ≡ [])
+
+-- the words call for this command, with the options that it has
+abbrev pub Names : List (List ℕ) → PlainCommand → Type 0
+Names words command = (name : List ℕ) × (word : List ℕ) × (options : List (List ℕ))
+    × (words ≡ name ∷ word ∷ options) × Calls word options command
+
+-- the words call for no command that waits for nobody
+abbrev pub HasNoReading : List (List ℕ) → Type 0
+HasNoReading words = (command : PlainCommand) → ¬ Names words command
+
+-- the second of the words is this one
+abbrev pub HasSecond : List ℕ → List (List ℕ) → Type 0
+HasSecond second words = (name : List ℕ) × (more : List (List ℕ)) × (words ≡ name ∷ second ∷ more)
+
+-- the words call for a command that may wait for others
+abbrev pub IsWaiting : List (List ℕ) → Type 0
+IsWaiting words = HasSecond (codes "play") words ⊎ HasSecond (codes "serve") words

@@ -1,7 +1,9 @@
-//! The one line that a run prints where it does not do its work. Making it takes no memory.
+//! The line that a run prints where it does not do its work, or where its input is damaged. Making it takes no memory.
 ghost use Rattle.std.specs.Prelude.{◌≡◌, ◌+◌, ◌≤◌, ◌++◌, length, decimal};
 ghost use Rattle.dubbo_main.specs.FaultLines.{not_built_line, input_line};
+ghost use Rattle.dubbo_main.specs.RingLines.{damaged_line};
 
+use crate::commands::Damage;
 use arrayvec::ArrayString;
 use itoa::Buffer;
 
@@ -31,10 +33,24 @@ pub fn input_failed(faults: u64) -> NumberLine
     around("fault input ", faults, "\n")
 }
 
+/// The last line of a damaged input, whose line with this number, counted from 1, is damaged.
+pub fn damaged(line: u32, damage: Damage) -> NumberLine
+    ensures { result.bytes ≡ damaged_line line damage }
+{
+    let behind = match damage {
+        Damage::Form => " form\n",
+        Damage::Repeated => " repeated\n",
+        Damage::Unknown => " unknown\n",
+        Damage::Many => " many\n",
+    };
+    around("damaged line ", u64::from(line), behind)
+}
+
 /// A number between two texts.
-fn around(before: &str, number: u64, behind: &str) -> NumberLine
+pub fn around(before: &str, number: u64, behind: &str) -> NumberLine
     requires { length before.now + length behind.now ≤ 24 }
-    ensures { result.bytes ≡ before.now ++ decimal number ++ behind.now }
+    ensures bytes { result.bytes ≡ before.now ++ decimal number ++ behind.now }
+    ensures short { length result.bytes ≤ 44 }
 {
     let mut line = NumberLine::new();
     let mut digits = Buffer::new();

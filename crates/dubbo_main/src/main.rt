@@ -2,7 +2,11 @@
 #![tactic(auto)]
 
 mod commands;
+mod damage_line;
 mod fault_line;
+mod input;
+mod lines;
+mod options;
 mod top;
 mod words;
 
@@ -17,7 +21,13 @@ fn main(rt: HostRuntime) -> ExitCode {
     let mut input = StdSource::new(rt.stdin());
     let mut output = StdSink::new(rt.stdout());
     let status = match words::given(&rt, alloc) {
-        Ok(words) => top::run(alloc, &words, &mut input, &mut output),
+        Ok(words) => {
+            if words::waits(&words) {
+                top::run(alloc, &words, &mut input, &mut output)
+            } else {
+                top::run_plain(alloc, &words, &mut input, &mut output)
+            }
+        }
         Err(_) => top::without_memory(&mut output),
     };
     ExitCode::from(status)

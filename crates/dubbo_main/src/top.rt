@@ -1,16 +1,25 @@
 //! The top call: one run of the program, from its words and its input to its output and its status.
-ghost use Rattle.std.specs.Prelude.{◌≡◌, ◌+◌, ◌<◌, ◌⊎◌, map, string_bytes};
-ghost use Rattle.dubbo_main.specs.Words.{IsPlay};
-ghost use Rattle.dubbo_main.specs.Statuses.{Ends, Comes, IsExact, Plays};
-ghost use Rattle.dubbo_main.specs.Play.{input_limit};
+ghost use Rattle.std.specs.Prelude.{◌≡◌, ℕ, ◌+◌, ◌<◌, ◌⊎◌, IsSome, MatchResult, map, string_bytes};
+ghost use Rattle.dubbo_main.specs.Words.{HasNoReading, IsPlay, Names};
+ghost use Rattle.dubbo_main.specs.Statuses.{Ends, Comes, IsExact};
+ghost use Rattle.dubbo_main.specs.PlayStatuses.{CallsFor, Plays};
+ghost use Rattle.dubbo_main.specs.PlainStatuses.{PlainCallsFor, WritesAnswer};
+ghost use Rattle.dubbo_main.specs.PlainCommands.{status_of as answer_status, text_of};
+ghost use Rattle.dubbo_main.specs.Decoding.{DecodeAnswers};
+ghost use Rattle.dubbo_main.specs.Encoding.{EncodeAnswers};
+ghost use Rattle.dubbo_main.specs.RingLines.{RingAnswers};
+ghost use Rattle.dubbo_main.specs.Input.{input_limit};
 ghost use Rattle.dubbo_main.specs.FaultLines.{memory_line};
 ghost use Rattle.dubbo_main.specs.PlayFault.{status_of, line_of};
+ghost use Rattle.dubbo_main.specs.Unread.{unread_status, unread_line};
+ghost use Rattle.dubbo_main.specs.declared.words.PlainCommand.TheVariants.{Decode, Encode, Ring};
 
-use crate::commands::{PlayFault, play};
+use crate::commands::{Answer, PlayFault, answer_whole, play};
 use crate::fault_line::{MEMORY_LINE, TOO_LONG_LINE, WORDS_LINE, input_failed, not_built};
-use crate::words::are_play;
-use dubbo_io::{Sink, Source, write_all};
-use std::alloc::Global;
+use crate::input::INPUT_LIMIT;
+use crate::words::{are_play, plain_command};
+use dubbo_io::{ReadFault, Sink, Source, read_all, write_all};
+use std::alloc::{AllocError, Global};
 
 /// Runs the command that the words name over this input, writes its output, and answers the status.
 ///
@@ -30,9 +39,10 @@ pub fn run<I: Source, O: Sink>(
     output: &mut O,
 ) -> u8
     requires { (O.state output.old).open_to_all }
-    ensures status { Comes (map string_bytes words.now.items)
-        (I.state input.old) (I.state input.new) (O.state output.old) (O.state output.new) result }
-    ensures exact { IsExact (map string_bytes words.now.items) (I.state input.old) (I.state input.new) result }
+    ensures status { Comes (CallsFor (map string_bytes words.now.items) (I.state input.old) (I.state input.new))
+        (O.state output.old) (O.state output.new) result }
+    ensures exact { IsSome (I.state input.old).given → IsExact
+        (CallsFor (map string_bytes words.now.items) (I.state input.old) (I.state input.new)) result }
 
     // What this says of single statuses.
     ensures played { result ≡ 0 → Plays (I.state input.old) (I.state input.new)
@@ -47,6 +57,79 @@ pub fn run<I: Source, O: Sink>(
     match play(alloc, input) {
         Ok(text) => finish(output, &text, 0),
         Err(fault) => tell(output, fault),
+    }
+}
+
+/// Runs a command that waits for nobody over this input, writes its output, and answers the status.
+///
+/// | Status | Comes |
+/// |---|---|
+/// | 0 | the command took its whole input, and its answer is written |
+/// | 1 | the words call for no such command |
+/// | 3 | the input failed |
+/// | 4 | the output failed, in place of any other status whose text couldn't be written |
+/// | 6 | there was no memory |
+/// | 7 | the input has more than 4,194,304 bytes |
+/// | 8 | the input is damaged, and what the command answers to it is written |
+pub fn run_plain<I: Source, O: Sink>(
+    alloc: Global,
+    words: &Vec<String>,
+    input: &mut I,
+    output: &mut O,
+) -> u8
+    requires { (O.state output.old).open_to_all }
+    ensures status { Comes
+        (PlainCallsFor (map string_bytes words.now.items) (I.state input.old) (I.state input.new))
+        (O.state output.old) (O.state output.new) result }
+    ensures exact { IsSome (I.state input.old).given → IsExact
+        (PlainCallsFor (map string_bytes words.now.items) (I.state input.old) (I.state input.new)) result }
+
+    // What this says of single statuses.
+    ensures no_reading { HasNoReading (map string_bytes words.now.items) → (result ≡ 1) ⊎ (result ≡ 4) }
+    ensures too_long { (I.state input.old).count + input_limit < (I.state input.new).count
+        → (result ≡ 7) ⊎ (result ≡ 4) }
+
+    // What each command writes at status 0 and 8.
+    ensures decode { (roots : ℕ) → Names (map string_bytes words.now.items) (Decode roots)
+        → WritesAnswer (DecodeAnswers roots)
+        (I.state input.old) (I.state input.new) (O.state output.old) (O.state output.new) result }
+    ensures encode { Names (map string_bytes words.now.items) Encode → WritesAnswer EncodeAnswers
+        (I.state input.old) (I.state input.new) (O.state output.old) (O.state output.new) result }
+    ensures ring { Names (map string_bytes words.now.items) Ring → WritesAnswer RingAnswers
+        (I.state input.old) (I.state input.new) (O.state output.old) (O.state output.new) result }
+{
+    let Some(command) = plain_command(words) else {
+        return finish(output, WORDS_LINE.as_bytes(), 1);
+    };
+    match read_all(alloc, input, INPUT_LIMIT) {
+        Ok(bytes) => tell_answer(output, answer_whole(alloc, command, &bytes)),
+        Err(fault) => tell_unread(output, fault),
+    }
+}
+
+/// Ends a run with what its command made of the input.
+fn tell_answer<O: Sink>(output: &mut O, answer: Result<Answer, AllocError>) -> u8
+    requires { (O.state output.old).open_to_all }
+    ensures { MatchResult answer
+        (λ a. Ends (O.state output.old) (O.state output.new) (answer_status a) (text_of a) result)
+        (λ _. Ends (O.state output.old) (O.state output.new) 6 memory_line result) }
+{
+    match answer {
+        Ok(Answer::Done(text)) => finish(output, &text, 0),
+        Ok(Answer::Damaged(text)) => finish(output, &text, 8),
+        Err(_) => without_memory(output),
+    }
+}
+
+/// Ends a run whose input was not read to its end. It takes no memory.
+fn tell_unread<O: Sink>(output: &mut O, fault: ReadFault) -> u8
+    requires { (O.state output.old).open_to_all }
+    ensures { Ends (O.state output.old) (O.state output.new) (unread_status fault) (unread_line fault) result }
+{
+    match fault {
+        ReadFault::Fault { faults } => finish(output, input_failed(faults).as_bytes(), 3),
+        ReadFault::TooLong { .. } => finish(output, TOO_LONG_LINE.as_bytes(), 7),
+        ReadFault::OutOfMemory => without_memory(output),
     }
 }
 

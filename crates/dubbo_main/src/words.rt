@@ -1,10 +1,22 @@
 //! The words of the command line.
-ghost use Rattle.std.specs.Prelude.{◌≡◌, ◌↔◌, IsTrue, codes, map, string_bytes};
-ghost use Rattle.dubbo_main.specs.Words.{IsPlay};
+ghost use Rattle.std.specs.Prelude.{◌≡◌, ◌↔◌, ◌⊎◌, ◌<◌, [], IsTrue, MatchOption, codes, length, map, string_bytes};
+ghost use Rattle.dubbo_main.specs.Words.{Calls, HasNoReading, IsPlay, IsWaiting, Names};
 
+use crate::options::roots_of;
 use std::alloc::{AllocError, Global};
 use std::env::{self, Env};
 use std::io::ErrorKind;
+
+/// A command that waits for nobody, with its options.
+#[derive(Clone, Copy, Debug, PartialEq, Eq)]
+pub enum PlainCommand {
+    /// `decode`: from the bytes of so many roots to their notation.
+    Decode { roots: u32 },
+    /// `encode`: from the notation of a graph to its bytes.
+    Encode,
+    /// `ring`: names come to a ring and leave it, and keys are given names.
+    Ring,
+}
 
 /// The words that the program was started with, its own name first.
 ///
@@ -32,4 +44,74 @@ fn is_play(word: &str) -> bool
     ensures { IsTrue result ↔ (word.now ≡ codes "play") }
 {
     word == "play"
+}
+
+/// Whether the words call for a command that may wait for others: their second is `play` or `serve`.
+pub fn waits(words: &Vec<String>) -> bool
+    ensures { IsTrue result ↔ IsWaiting (map string_bytes words.now.items) }
+{
+    match words.as_slice() {
+        [_, command, ..] => is_waiting(command),
+        _ => false,
+    }
+}
+
+/// Whether a word names a command that may wait for others.
+fn is_waiting(word: &str) -> bool
+    ensures { IsTrue result ↔ ((word.now ≡ codes "play") ⊎ (word.now ≡ codes "serve")) }
+{
+    word == "play" || word == "serve"
+}
+
+/// The command that the words call for, if it is one that waits for nobody.
+pub fn plain_command(words: &Vec<String>) -> Option<PlainCommand>
+    ensures { MatchOption result (HasNoReading (map string_bytes words.now.items))
+        (Names (map string_bytes words.now.items)) }
+{
+    match words.as_slice() {
+        [_, word, options @ ..] => command_of(word, options),
+        _ => None,
+    }
+}
+
+/// The command that this word and the options behind it call for.
+fn command_of(word: &str, options: &[String]) -> Option<PlainCommand>
+    ensures { MatchOption result
+        ((command : PlainCommand) → ¬ Calls word.now (map string_bytes options.now) command)
+        (Calls word.now (map string_bytes options.now)) }
+{
+    match options {
+        [] => command_alone(word),
+        _ => command_with(word, options),
+    }
+}
+
+/// The command that this word and some options call for.
+fn command_with(word: &str, options: &[String]) -> Option<PlainCommand>
+    requires { 0 < length options.now }
+    ensures { MatchOption result
+        ((command : PlainCommand) → ¬ Calls word.now (map string_bytes options.now) command)
+        (Calls word.now (map string_bytes options.now)) }
+{
+    if word == "decode" {
+        let roots = u32::from(roots_of(options)?);
+        return Some(PlainCommand::Decode { roots });
+    }
+    None
+}
+
+/// The command that this word calls for without options.
+fn command_alone(word: &str) -> Option<PlainCommand>
+    ensures { MatchOption result ((command : PlainCommand) → ¬ Calls word.now [] command) (Calls word.now []) }
+{
+    if word == "decode" {
+        return Some(PlainCommand::Decode { roots: 1 });
+    }
+    if word == "encode" {
+        return Some(PlainCommand::Encode);
+    }
+    if word == "ring" {
+        return Some(PlainCommand::Ring);
+    }
+    None
 }

@@ -2,13 +2,11 @@
 ghost use Rattle.std.specs.Prelude.{◌≤◌, length, IfOk, IfErr};
 ghost use Rattle.dubbo_main.specs.Play.{Transcribes, StopsPlaying, IsTranscript, RefusesScript};
 
+use crate::input::INPUT_LIMIT;
 use dubbo_io::{ReadFault, Source, read_all};
 use dubbo_play::{FirstFault, FirstScript, first_link};
 use std::alloc::Global;
 use thiserror::Error;
-
-/// The most bytes of an input.
-pub const INPUT_LIMIT: usize = 4_194_304;
 
 /// Why a script is not played.
 #[derive(Clone, Copy, Debug, PartialEq, Eq, Error)]

@@ -2,11 +2,12 @@ use Rattle.std.proofs.Common.{◌≡◌, map, refl, subst, arith, IsTrue, ◌∙
 use Rattle.std.proofs.lemmas.Grind.{common_steps}
 use Rattle.std.specs.Prelude.{string_bytes}
 use Rattle.dubbo_main.specs.Words.{IsPlay}
-use Rattle.dubbo_main.specs.Statuses.CallsFor.{played, other_words}
+use Rattle.dubbo_main.specs.PlayStatuses.CallsFor.{played, other_words}
 use Rattle.dubbo_main.specs.FaultLines.{words_line}
 use Rattle.dubbo_main.specs.PlayFault.{status_of, line_of}
 use Rattle.dubbo_play.specs.FirstTranscript.{transcript}
-use Rattle.dubbo_main.proofs.OneStatus.{IsExact-Comes}
+use Rattle.dubbo_main.proofs.OneStatus.{IsOneStatus-play}
+use Rattle.dubbo_main.proofs.Statuses.{IsExact-Comes}
 use Rattle.dubbo_main.proofs.StatusRows.{CallsFor-fault}
 use Rattle.dubbo_main.proofs.top.run.Goals as goal
 
@@ -32,10 +33,10 @@ returns-in-Err-clause-status g c =
     (status_of fault, line_of fault, CallsFor-fault _ _ _ fault play c.in-Err.ensures.stops, c.tell.ensures)
 
 pub returns-then-not-are_play-clause-exact : goal.returns-then-not-are_play-clause-exact
-returns-then-not-are_play-clause-exact g c = IsExact-Comes _ _ _ _ _ _ (returns-then-not-are_play-clause-status g c)
+returns-then-not-are_play-clause-exact g c = λ told. IsExact-Comes _ _ _ _ (IsOneStatus-play _ _ _ told) (returns-then-not-are_play-clause-status g c)
 
 pub returns-in-Ok-clause-exact : goal.returns-in-Ok-clause-exact
-returns-in-Ok-clause-exact g c = IsExact-Comes _ _ _ _ _ _ (returns-in-Ok-clause-status g c)
+returns-in-Ok-clause-exact g c = λ told. IsExact-Comes _ _ _ _ (IsOneStatus-play _ _ _ told) (returns-in-Ok-clause-status g c)
 
 pub returns-in-Err-clause-exact : goal.returns-in-Err-clause-exact
-returns-in-Err-clause-exact g c = IsExact-Comes _ _ _ _ _ _ (returns-in-Err-clause-status g c)
+returns-in-Err-clause-exact g c = λ told. IsExact-Comes _ _ _ _ (IsOneStatus-play _ _ _ told) (returns-in-Err-clause-status g c)

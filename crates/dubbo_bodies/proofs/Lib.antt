@@ -1,0 +1,12 @@
+pub mod Running
+pub mod Counting
+pub mod Goes
+pub mod Wider
+pub mod Beside
+pub mod Begun
+pub mod Together
+pub mod Written
+pub mod OneBody
+pub mod Bodies
+pub mod ReadBack
+pub mod ReplyBack

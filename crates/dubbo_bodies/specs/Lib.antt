@@ -1,0 +1,9 @@
+pub mod Descriptor
+pub mod Stages
+pub mod Attachments
+pub mod Fields
+pub mod RequestBody
+pub mod ReplyBody
+pub mod Refusals
+pub mod WrittenBody
+pub mod CanonBody

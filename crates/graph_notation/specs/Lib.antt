@@ -1,0 +1,14 @@
+pub mod Tokens
+pub mod Elements
+pub mod Forms
+pub mod Notation
+pub mod Refusal
+pub mod Machine
+pub mod View
+pub mod Lexing
+pub mod Unquoting
+pub mod Words
+pub mod Whole
+pub mod Progress
+pub mod Built
+pub mod Pressing

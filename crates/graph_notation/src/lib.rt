@@ -1,0 +1,29 @@
+//! The notation of graphs: one text for each canonical form, printed and read, with sharing and cycles.
+//!
+//! A graph is its roots joined by `,`. A list is `[..]`, a map `{key:value,..}`, an object `!"Name"("field":value,..)`, a node
+//! with a type `!"type"` before its bracket. A node that was begun before is `#` and its number.
+#![tactic(auto)]
+
+mod building;
+mod contents;
+mod element;
+mod fault;
+mod frame;
+pub mod laws;
+mod lists;
+mod numbers;
+mod press;
+mod printed;
+mod reader;
+mod reading;
+mod stop;
+mod token_ends;
+mod words;
+
+pub use fault::{NODE_LIMIT, NotationFault};
+pub use hessian_graph::OutOfMemory;
+pub use press::print_graph;
+pub use reading::read_notation;
+
+#[cfg(test)]
+mod tests;

@@ -1,0 +1,205 @@
+//! The one token that is written for an element.
+
+ghost use Rattle.std.specs.Prelude.{◌≡◌, ◌+◌, ◌<◌, ◌≤◌, ◌∷◌, ◌++◌, [], ◌-◌, OnOk, IfOk, decimal, length, take, drop, get_or, true};
+ghost use Rattle.std.specs.Fmt.{signed_decimal};
+ghost use Rattle.std.specs.List.{flat_map};
+ghost use Rattle.graph_notation.specs.Elements.{mark_byte, hex_digit, hex_pair, short_hex, is_control, escaped, quoted, word_of, printed};
+
+use crate::element::{Element, Mark};
+use hessian_graph::Value;
+use itoa::Buffer;
+use std::alloc::AllocError;
+
+/// The byte of a mark.
+fn byte_of(mark: Mark) -> u8
+    ensures { result ≡ mark_byte mark }
+{
+    match mark {
+        Mark::BeginList => b'[',
+        Mark::EndList => b']',
+        Mark::BeginMap => b'{',
+        Mark::EndMap => b'}',
+        Mark::BeginFields => b'(',
+        Mark::EndFields => b')',
+        Mark::Comma => b',',
+        Mark::Colon => b':',
+        Mark::Named => b'!',
+    }
+}
+
+/// Appends a number of 32 bits.
+fn write_int(out: &mut Vec<u8>, number: i32) -> Result<(), AllocError>
+    ensures { OnOk result (out.new.items ≡ out.old.items ++ signed_decimal number) }
+{
+    let mut buffer = Buffer::new();
+    out.extend_from_slice(buffer.format(number).as_bytes())?;
+    Ok(())
+}
+
+/// Appends a number of 64 bits.
+fn write_long(out: &mut Vec<u8>, number: i64) -> Result<(), AllocError>
+    ensures { OnOk result (out.new.items ≡ out.old.items ++ signed_decimal number) }
+{
+    let mut buffer = Buffer::new();
+    out.extend_from_slice(buffer.format(number).as_bytes())?;
+    Ok(())
+}
+
+/// Appends a reference to a node.
+fn write_reference(out: &mut Vec<u8>, number: u32) -> Result<(), AllocError>
+    ensures { OnOk result (out.new.items ≡ out.old.items ++ 0x23 ∷ decimal number) }
+{
+    let mut buffer = Buffer::new();
+    out.push(b'#')?;
+    out.extend_from_slice(buffer.format(number).as_bytes())?;
+    Ok(())
+}
+
+/// A hexadecimal digit.
+fn digit(number: u8) -> u8
+    requires { number < 16 }
+    ensures { result ≡ hex_digit number }
+{
+    if number < 10 {
+        b'0' + number
+    } else {
+        0x57 + number
+    }
+}
+
+/// Appends two digits for each byte.
+#[tactic(auto, using(crate::proofs::Runs::one_more))]
+fn write_pairs(out: &mut Vec<u8>, bytes: &[u8]) -> Result<(), AllocError>
+    ensures { OnOk result (out.new.items ≡ out.old.items ++ flat_map hex_pair bytes.now) }
+{
+    for byte in bytes {
+        out.extend_from_slice(&[digit(*byte / 16), digit(*byte % 16)])?;
+    }
+    Ok(())
+}
+
+/// Appends a byte of a text that doesn't stand for itself.
+fn write_escaped(out: &mut Vec<u8>, byte: u8) -> Result<(), AllocError>
+    ensures { OnOk result (out.new.items ≡ out.old.items ++ escaped byte) }
+{
+    if byte == b'"' {
+        out.extend_from_slice(b"\\\"")?;
+    } else if byte == b'\\' {
+        out.extend_from_slice(b"\\\\")?;
+    } else if byte < 0x10 {
+        out.extend_from_slice(&[b'\\', b'u', b'{', digit(byte), b'}'])?;
+    } else if byte < 0x20 || byte == 0x7f {
+        out.extend_from_slice(&[b'\\', b'u', b'{', digit(byte / 16), digit(byte % 16), b'}'])?;
+    } else {
+        out.push(byte)?;
+    }
+    Ok(())
+}
+
+/// Whether a byte of a text stands for itself.
+fn stands(byte: u8) -> bool
+    ensures { result ≡ true → escaped byte ≡ byte ∷ [] }
+{
+    byte >= 0x20 && byte != 0x7f && byte != b'"' && byte != b'\\'
+}
+
+/// Appends a run of bytes that stand for themselves, and the byte behind them, which doesn't.
+fn write_run(out: &mut Vec<u8>, text: &[u8], from: usize, at: usize) -> Result<(), AllocError>
+    requires from { from ≤ at }
+    requires at { at < length text.now }
+    ensures { OnOk result (out.new.items ≡ (out.old.items ++ take (at - from) (drop from text.now)) ++ escaped (get_or text.now at 0)) }
+{
+    out.extend_from_slice(&text[from..at])?;
+    write_escaped(out, text[at])
+}
+
+/// Goes past a byte, and answers where the run of bytes that stand for themselves begins now.
+fn go_past(out: &mut Vec<u8>, text: &[u8], from: usize, at: usize) -> Result<usize, AllocError>
+    requires from { from ≤ at }
+    requires at { at < length text.now }
+    ensures low { IfOk result (λ next. next ≤ at + 1) }
+    ensures written { IfOk result (λ next. out.new.items ++ take (at + 1 - next) (drop next text.now)
+        ≡ (out.old.items ++ take (at - from) (drop from text.now)) ++ escaped (get_or text.now at 0)) }
+{
+    if stands(text[at]) {
+        Ok(from)
+    } else {
+        match write_run(out, text, from, at) {
+            Ok(()) => Ok(at + 1),
+            Err(error) => Err(error),
+        }
+    }
+}
+
+/// Appends the content of a text: runs of bytes that stand for themselves, and the others one by one.
+fn write_content(out: &mut Vec<u8>, text: &[u8]) -> Result<(), AllocError>
+    ensures { OnOk result (out.new.items ≡ out.old.items ++ flat_map escaped text.now) }
+{
+    let mut from = 0;
+    for at in 0..text.len() {
+        from = go_past(out, text, from, at)?;
+    }
+    out.extend_from_slice(&text[from..])?;
+    Ok(())
+}
+
+/// Appends a text.
+fn write_text(out: &mut Vec<u8>, text: &str) -> Result<(), AllocError>
+    ensures { OnOk result (out.new.items ≡ out.old.items ++ quoted text.now) }
+{
+    out.push(b'"')?;
+    write_content(out, text.as_bytes())?;
+    out.push(b'"')?;
+    Ok(())
+}
+
+/// Appends a value that is no node.
+fn write_value(out: &mut Vec<u8>, value: &Value) -> Result<(), AllocError>
+    ensures { OnOk result (out.new.items ≡ out.old.items ++ word_of value.now) }
+{
+    match value {
+        Value::Null => {
+            out.extend_from_slice(b"null")?;
+            Ok(())
+        }
+        Value::Bool(true) => {
+            out.extend_from_slice(b"true")?;
+            Ok(())
+        }
+        Value::Bool(false) => {
+            out.extend_from_slice(b"false")?;
+            Ok(())
+        }
+        Value::Int(number) => write_int(out, *number),
+        Value::Long(number) => {
+            write_long(out, *number)?;
+            out.push(b'L')?;
+            Ok(())
+        }
+        Value::Date(number) => {
+            out.push(b'@')?;
+            write_long(out, *number)
+        }
+        Value::Bytes(bytes) => {
+            out.push(b'x')?;
+            write_pairs(out, bytes.as_slice())
+        }
+        Value::Text(text) => write_text(out, text.as_str()),
+        Value::Node(number) => write_reference(out, *number),
+    }
+}
+
+/// Appends the token of an element.
+pub fn write(out: &mut Vec<u8>, element: &Element) -> Result<(), AllocError>
+    ensures { OnOk result (out.new.items ≡ out.old.items ++ printed element.now) }
+{
+    match element {
+        Element::Plain(value) => write_value(out, value),
+        Element::Words(text) => write_text(out, text.as_str()),
+        Element::Reference(number) => write_reference(out, *number),
+        Element::Sign(mark) => {
+            out.push(byte_of(*mark))?;
+            Ok(())
+        }
+    }
+}

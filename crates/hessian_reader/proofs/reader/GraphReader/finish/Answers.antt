@@ -1,0 +1,18 @@
+use Rattle.std.proofs.Common.{◌≡◌, ◌∙◌, ap, sym}
+use Rattle.hessian_reader.specs.declared.fault.HessianFault.TheVariants.{Short}
+use Rattle.hessian_reader.specs.Views.{state_of}
+use Rattle.hessian_reader.proofs.Feeding.{done_is, not_done_is, not_ended}
+use Rattle.hessian_reader.proofs.Whole.{finished}
+use Rattle.hessian_reader.proofs.reader.GraphReader.finish.Goals as goal
+
+pub returns-then-is_done-clause-ok : goal.returns-then-is_done-clause-ok
+returns-then-is_done-clause-ok c = λ roots fed read.
+    let r = c.args.self in
+    let e = done_is c.is_done.result (state_of r.work) c.is_done.ensures c.if-is_done.true in
+    finished r roots fed c.graph_of.result (read.follows c.in_default.is) e c.graph_of.ensures.roots c.graph_of.ensures.shape
+
+pub returns-else-is_done-clause-short : goal.returns-else-is_done-clause-short
+returns-else-is_done-clause-short c = λ roots fed none read some.
+    let r = c.args.self in
+    let d = not_done_is c.is_done.result (state_of r.work) c.is_done.ensures c.if-is_done.false in
+    (ap Short read.counted, not_ended r roots fed (read.follows none) read.bytes d)

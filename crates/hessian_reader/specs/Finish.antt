@@ -1,0 +1,30 @@
+-- The nodes of a graph, and those of a reading that is done.
+use Rattle.std.specs.Prelude.{◌≡◌, ℕ, ◌<◌, List, length, get_or, map}
+use Rattle.hessian_graph.specs.declared.value.Value.{Value}
+use Rattle.hessian_graph.specs.declared.node.Node.{Node}
+use Rattle.hessian_graph.specs.declared.node.Node.TheVariants as nodes
+use Rattle.hessian_graph.specs.Shape.{no_vertex, alternately}
+use Rattle.hessian_graph.specs.Spells.{ArePairs}
+use Rattle.hessian_reader.specs.declared.store.Sort.{Sort}
+use Rattle.hessian_reader.specs.declared.store.Sort.TheVariants as sorts
+use Rattle.hessian_reader.specs.declared.store.Begun.{Begun}
+use Rattle.hessian_reader.specs.States.{State, no_begun, sort_at, values_so_far}
+
+-- the node is of this sort and has these values; a map's, where they are whole pairs
+abbrev pub IsNodeOf : Sort → List Value → Node → Type 0
+IsNodeOf (sorts.List k) vs node = node ≡ nodes.List k vs
+IsNodeOf (sorts.Map k) vs node = ArePairs vs → (pairs : _) × (node ≡ nodes.Map k pairs) × (alternately pairs ≡ vs)
+IsNodeOf (sorts.Object k) vs node = node ≡ nodes.Object k vs
+
+pub record AreNodesOf (begun : List Begun) (ns : List Node) : Type 0 where
+  pub as_many : length ns ≡ length begun
+  pub each : (i : ℕ) → i < length begun → IsNodeOf (sort_at begun i) (values_so_far begun i) (get_or ns i no_vertex)
+
+-- each map has whole pairs
+abbrev pub IsWhole : Sort → List Value → Type 0
+IsWhole (sorts.List k) vs = Unit {0}
+IsWhole (sorts.Map k) vs = ArePairs vs
+IsWhole (sorts.Object k) vs = Unit {0}
+
+abbrev pub MapsAreWhole : State → Type 0
+MapsAreWhole s = (i : ℕ) → i < length s.built.nodes → IsWhole (sort_at s.built.nodes i) (values_so_far s.built.nodes i)

@@ -1,0 +1,11 @@
+pub mod Leaves
+pub mod Elements
+pub mod Codes
+pub mod Names
+pub mod States
+pub mod Steps
+pub mod Views
+pub mod Finish
+pub mod Lexing
+pub mod Starting
+pub mod Reading

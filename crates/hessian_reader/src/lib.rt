@@ -1,0 +1,27 @@
+//! Graphs from the bytes of Hessian 2, whole or as they come.
+//!
+//! A reading goes through elements: a leaf, the code of a node, an int or a text in its place. A lexer finds the
+//! elements in the bytes, and each element takes the tables and the open nodes one step on.
+#![tactic(auto)]
+
+mod chunks;
+mod element;
+mod fault;
+mod finish;
+mod law;
+mod lexer;
+mod names;
+mod place;
+mod reader;
+mod reading;
+mod stop;
+mod store;
+mod work;
+
+pub use fault::HessianFault;
+pub use law::bytes_denote_one_graph;
+pub use reader::{Fed, GraphReader};
+pub use reading::read_graph;
+
+#[cfg(test)]
+mod tests;

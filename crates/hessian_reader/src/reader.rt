@@ -1,0 +1,212 @@
+//! A reader of graphs that takes its bytes in pieces.
+
+ghost use Rattle.std.specs.Prelude.{◌≡◌, ◌≢◌, ℕ, ◌+◌, ◌<◌, ◌≤◌, ◌++◌, List, [], length, take, Some, None, Err, false, IfOk, IfErr, IfSome};
+
+use crate::element::Element;
+use crate::fault::HessianFault;
+use crate::finish::graph_of;
+use crate::lexer::{Lexed, Lexer};
+use crate::stop::{Objection, Stop};
+use crate::work::Work;
+use hessian_graph::Graph;
+use std::alloc::Global;
+
+/// What a piece did.
+#[derive(Clone, Copy, Debug, PartialEq, Eq)]
+pub enum Fed {
+    /// The last root hasn't ended.
+    More,
+    /// The last root has ended.
+    Done {
+        /// Behind so many bytes of this piece; 0 where it had ended before.
+        used: usize,
+    },
+}
+
+/// Reads the values of a graph from bytes that come in any pieces.
+///
+/// It is known by the number of roots that are wanted and by the bytes that were fed; a refusal stays.
+#[derive(Drop)]
+pub struct GraphReader {
+    work: Work,
+    lexer: Lexer,
+    /// Where the element began that isn't whole.
+    from: usize,
+    /// How many bytes were fed.
+    fed: usize,
+    refused: Option<HessianFault>,
+}
+
+/// The refusal of an element that began at a place.
+fn refused_at(stop: Stop, at: usize) -> HessianFault
+    ensures { stop ≡ Stop.NoMemory → result ≡ HessianFault.OutOfMemory }
+{
+    match stop {
+        Stop::NoMemory => HessianFault::OutOfMemory,
+        Stop::Objects(Objection::NoEnd) => HessianFault::BadCode { at, code: b'Z' },
+        Stop::Objects(Objection::NoNode(number)) => HessianFault::BadRef { at, number },
+        Stop::Objects(Objection::NoType(number)) => HessianFault::BadType { at, number },
+        Stop::Objects(Objection::NoClass(number)) => HessianFault::BadClass { at, number },
+        Stop::Objects(Objection::NoLength(number)) => HessianFault::BadLength { at, number },
+        Stop::Objects(Objection::TooMany) => HessianFault::TooManyNodes { at },
+        Stop::Objects(Objection::Misplaced) => HessianFault::Short { at },
+    }
+}
+
+impl GraphReader {
+    ghost use Rattle.hessian_graph.specs.Shape.{Shape, shape_of};
+    ghost use Rattle.hessian_text.specs.Spelling.{AreBytes};
+    ghost use Rattle.hessian_reader.specs.declared.fault.HessianFault.{HessianFault as Faults};
+    ghost use Rattle.hessian_reader.specs.Leaves.{IsDenoted};
+    ghost use Rattle.hessian_reader.specs.Lexing.{Holds};
+    ghost use Rattle.hessian_reader.specs.Reading.{EndsAt, Follows, HasRead, NeverEnds, Nexts, Tells, Took, fed_in_all, refusal_of};
+    ghost use Rattle.hessian_reader.specs.States.{is_done, want_at};
+    ghost use Rattle.hessian_reader.specs.Views.{state_of};
+
+    /// A reader of so many roots, to which nothing was fed.
+    pub fn new(alloc: Global, roots: u32) -> GraphReader
+        ensures begins { HasRead result roots [] }
+        ensures none { fed_in_all result ≡ 0 }
+        ensures serves { refusal_of result ≡ None }
+    {
+        let work = Work::new(alloc, roots);
+        let lexer = Lexer::new(work.want());
+        GraphReader {
+            work,
+            lexer,
+            from: 0,
+            fed: 0,
+            refused: None,
+        }
+    }
+
+    /// Takes the next bytes, up to the end of the last root.
+    ///
+    /// After a refusal each later call gives the same one.
+    pub fn feed(&mut self, piece: &[u8]) -> Result<Fed, HessianFault>
+        requires room { fed_in_all self.old + length piece.now ≤ usize.MAX }
+
+        // It tells where the last root ends in all that was fed.
+        ensures tells { (roots : ℕ) (fed : List ℕ) → HasRead self.old roots fed
+            → IfOk result (λ told. Tells roots fed piece.now told × HasRead self.new roots (fed ++ piece.now)) }
+        ensures counts { IfOk result (λ told. fed_in_all self.new ≡ fed_in_all self.old + length piece.now) }
+        ensures serves { IfOk result (λ told. refusal_of self.new ≡ None) }
+
+        // Only where the last root never ends, however the bytes go on, is anything refused; or for want of memory.
+        ensures refused { (roots : ℕ) (fed : List ℕ) → HasRead self.old roots fed
+            → IfErr result (λ fault. fault ≢ HessianFault.OutOfMemory → NeverEnds roots (fed ++ piece.now)) }
+        ensures keeps { IfErr result (λ fault. refusal_of self.new ≡ Some fault) }
+
+        // After a refusal nothing changes.
+        ensures stays { (fault : Faults) → refusal_of self.old ≡ Some fault → (result ≡ Err fault) × (self.new ≡ self.old) }
+    {
+        if let Some(fault) = self.refused {
+            return Err(fault);
+        }
+        let told = self.advance(piece);
+        match told {
+            Ok(told) => {
+                self.fed += piece.len();
+                Ok(told)
+            }
+            Err(fault) => {
+                self.refused = Some(fault);
+                Err(fault)
+            }
+        }
+    }
+
+    /// The same, where nothing was refused.
+    fn advance(&mut self, piece: &[u8]) -> Result<Fed, HessianFault>
+        requires room { self.old.fed + length piece.now ≤ usize.MAX }
+        ensures same { (self.new.fed ≡ self.old.fed) × (self.new.refused ≡ self.old.refused) }
+        ensures tells { (roots : ℕ) (fed : List ℕ) → self.old.fed ≡ length fed → AreBytes fed → Follows self.old roots fed
+            → IfOk result (λ told. Tells roots fed piece.now told × Follows self.new roots (fed ++ piece.now)) }
+        ensures refused { (roots : ℕ) (fed : List ℕ) → self.old.fed ≡ length fed → AreBytes fed → Follows self.old roots fed
+            → IfErr result (λ fault. fault ≢ HessianFault.OutOfMemory → NeverEnds roots (fed ++ piece.now)) }
+    {
+        let mut taken = 0;
+        while taken < piece.len() {
+            if self.work.is_done() {
+                return Ok(Fed::Done { used: taken });
+            }
+            match self.next_element(self.fed + taken, &piece[taken..]) {
+                // An element has at least one byte.
+                Ok(Some(used)) => taken += used.max(1),
+                Ok(None) => return Ok(Fed::More),
+                Err(fault) => return Err(fault),
+            }
+        }
+        if self.work.is_done() {
+            Ok(Fed::Done { used: taken })
+        } else {
+            Ok(Fed::More)
+        }
+    }
+
+    /// Takes the rest of the element that has begun, and answers behind how many bytes it ends, where it does.
+    fn next_element(&mut self, at: usize, piece: &[u8]) -> Result<Option<usize>, HessianFault>
+        requires open { is_done (state_of self.old.work) ≡ false }
+        requires some { 0 < length piece.now }
+        requires room { at + length piece.now ≤ usize.MAX }
+        ensures same { (self.new.fed ≡ self.old.fed) × (self.new.refused ≡ self.old.refused) }
+        ensures within { IfOk result (λ end. IfSome end (λ used. used ≤ length piece.now)) }
+        ensures nexts { (came : List ℕ) → AreBytes came → self.old.lexer.want ≡ want_at self.old.work.place → Holds self.old.lexer.want self.old.lexer.inside came
+            → Nexts self.old at came piece.now self.new result }
+    {
+        let alloc = self.work.store.alloc;
+        match self.lexer.feed(alloc, piece)? {
+            Lexed::More => Ok(None),
+            Lexed::Whole(element, used) => {
+                self.take(element)?;
+                self.from = at + used;
+                Ok(Some(used))
+            }
+            Lexed::Double(code) => Err(HessianFault::Double {
+                at: self.from,
+                code,
+            }),
+            Lexed::NoCode(place, code) => Err(HessianFault::BadCode {
+                at: at + place,
+                code,
+            }),
+            Lexed::NoText(place, begun) => Err(HessianFault::BadText {
+                at: (at + place).saturating_sub(begun),
+            }),
+        }
+    }
+
+    /// Takes a whole element, and waits for the next.
+    fn take(&mut self, element: Element) -> Result<(), HessianFault>
+        ensures same { (self.new.fed ≡ self.old.fed) × (self.new.refused ≡ self.old.refused) }
+        ensures took { Took (state_of self.old.work) element self.new result }
+    {
+        match self.work.take(element) {
+            Ok(()) => {
+                self.lexer = Lexer::new(self.work.want());
+                Ok(())
+            }
+            Err(stop) => Err(refused_at(stop, self.from)),
+        }
+    }
+
+    /// Ends the reading: the graph, or what was refused.
+    pub fn finish(self) -> Result<Graph, HessianFault>
+        // The graph is the one that the bytes denote up to the end of the last root.
+        ensures ok { (roots : ℕ) (fed : List ℕ) → HasRead self roots fed
+            → IfOk result (λ g. (n : ℕ) × (n ≤ length fed) × IsDenoted (take n fed) (shape_of g) × (length g.roots ≡ roots)) }
+        ensures refused { (fault : Faults) → refusal_of self ≡ Some fault → result ≡ Err fault }
+        ensures short { (roots : ℕ) (fed : List ℕ) → refusal_of self ≡ None → HasRead self roots fed
+            → IfErr result (λ fault. fault ≢ HessianFault.OutOfMemory
+            → (fault ≡ HessianFault.Short (length fed)) × ((n : ℕ) → EndsAt roots fed n → ⊥)) }
+    {
+        if let Some(fault) = self.refused {
+            return Err(fault);
+        }
+        if self.work.is_done() {
+            graph_of(self.work)
+        } else {
+            Err(HessianFault::Short { at: self.fed })
+        }
+    }
+}

@@ -1,0 +1,220 @@
+//! The values that came, and the nodes that are open.
+
+ghost use Rattle.std.specs.Prelude.{◌≡◌, ◌++◌, ◌∷◌, ◌<◌, ◌^◌, [], length, OnOk, IsTrue};
+ghost use Rattle.hessian_graph.specs.declared.value.Value.TheVariants.{Node};
+ghost use Rattle.hessian_reader.specs.States.{less_lacking, lacks_none, with_begun, with_item, with_node, with_value};
+ghost use Rattle.hessian_reader.specs.Views.{built_of, Builds};
+
+use crate::stop::Stop;
+use hessian_graph::{Items, Value};
+use std::alloc::{AllocError, Global};
+use std::marker::Model;
+
+/// The values of a node, as far as they came. A map's keys and values come alternately.
+#[derive(Drop)]
+pub struct Growing {
+    inner: Vec<Value>,
+}
+
+impl Model for Growing {
+    ghost use Rattle.std.specs.Prelude.{List};
+    ghost use Rattle.hessian_graph.specs.declared.value.Value.{Value as Item};
+
+    ghost Value = { List Item };
+
+    ghost view = { λ a. a.inner.items };
+}
+
+impl Growing {
+    /// No values.
+    pub fn new(alloc: Global) -> Growing
+        ensures { result ≡ [] }
+    {
+        Growing {
+            inner: Vec::new(alloc),
+        }
+    }
+
+    /// Adds a value.
+    pub fn push(&mut self, value: Value) -> Result<(), AllocError>
+        ensures { OnOk result (self.new ≡ self.old ++ value ∷ []) }
+    {
+        self.inner.push(value)?;
+        Ok(())
+    }
+
+    /// The values as items.
+    pub fn into_items(self) -> Items
+        ensures { result ≡ self }
+    {
+        Items::from(self.inner)
+    }
+}
+
+/// What a node is, with the number of its type or class.
+#[derive(Clone, Copy)]
+pub enum Sort {
+    /// A list, with its type where it has one.
+    List(Option<u32>),
+    /// A map, with its type where it has one.
+    Map(Option<u32>),
+    /// An object of this class.
+    Object(u32),
+}
+
+/// A node that has begun.
+#[derive(Drop)]
+pub struct Begun {
+    /// What it is.
+    pub sort: Sort,
+    /// Its values so far.
+    pub values: Growing,
+}
+
+/// What an open node lacks.
+#[derive(Clone, Copy)]
+pub enum Lacks {
+    /// Values up to `Z`.
+    ToEnd,
+    /// So many values.
+    Count(usize),
+    /// A key, or `Z`.
+    Key,
+    /// The value of a key.
+    Mate,
+}
+
+/// A node that lacks values.
+#[derive(Clone, Copy)]
+pub struct OpenNode {
+    /// Its number.
+    pub node: u32,
+    /// What it lacks.
+    pub lacks: Lacks,
+}
+
+/// The roots and nodes so far.
+#[derive(Drop)]
+pub struct Store {
+    /// Where new nodes take their memory.
+    pub alloc: Global,
+    /// The roots that came.
+    pub roots: Vec<Value>,
+    /// How many roots are to come.
+    pub wanted: u32,
+    /// The nodes that have begun, by their numbers.
+    pub nodes: Vec<Begun>,
+    /// The nodes that lack values, the innermost last.
+    pub open_nodes: Vec<OpenNode>,
+}
+
+/// An open node once it has one value more; nothing where it lacks no other.
+fn after_value(lacking: OpenNode) -> Option<OpenNode>
+    ensures { result ≡ less_lacking lacking.lacks lacking.node }
+{
+    let node = lacking.node;
+    match lacking.lacks {
+        Lacks::ToEnd => Some(OpenNode {
+            node,
+            lacks: Lacks::ToEnd,
+        }),
+        Lacks::Count(left) => {
+            if left <= 1 {
+                None
+            } else {
+                Some(OpenNode {
+                    node,
+                    lacks: Lacks::Count(left - 1),
+                })
+            }
+        }
+        Lacks::Key => Some(OpenNode {
+            node,
+            lacks: Lacks::Mate,
+        }),
+        Lacks::Mate => Some(OpenNode {
+            node,
+            lacks: Lacks::Key,
+        }),
+    }
+}
+
+impl Store {
+    /// No values, of which so many roots are wanted.
+    pub fn new(alloc: Global, wanted: u32) -> Store
+        ensures { built_of result ≡ record { roots = []; wanted = wanted; nodes = []; open_nodes = [] } }
+    {
+        Store {
+            alloc,
+            roots: Vec::new(alloc),
+            wanted,
+            nodes: Vec::new(alloc),
+            open_nodes: Vec::new(alloc),
+        }
+    }
+
+    /// Adds a value to the node of this number.
+    fn put(&mut self, node: u32, value: Value) -> Result<(), AllocError>
+        ensures { OnOk result (built_of self.new ≡ record (built_of self.old) { nodes = with_item self.old.nodes.items node value }) }
+    {
+        let place = node as usize;
+        if place < self.nodes.len() {
+            self.nodes[place].values.push(value)?;
+        }
+        Ok(())
+    }
+
+    /// Gives a value to the innermost open node, or to the roots.
+    pub fn give(&mut self, value: Value) -> Result<(), AllocError>
+        ensures { OnOk result (built_of self.new ≡ with_value (built_of self.old).open_nodes value (built_of self.old)) }
+    {
+        match self.open_nodes.pop() {
+            None => {
+                self.roots.push(value)?;
+                self.wanted = self.wanted.saturating_sub(1);
+            }
+            Some(innermost) => {
+                self.put(innermost.node, value)?;
+                if let Some(lacking) = after_value(innermost) {
+                    self.open_nodes.push(lacking)?;
+                }
+            }
+        }
+        Ok(())
+    }
+
+    /// Begins the node of this number.
+    fn begin_at(&mut self, lacks: Lacks, sort: Sort, node: u32) -> Result<(), AllocError>
+        ensures { OnOk result (built_of self.new ≡ with_begun lacks sort node (built_of self.old)) }
+    {
+        self.nodes.push(Begun {
+            sort,
+            values: Growing::new(self.alloc),
+        })?;
+        match lacks {
+            Lacks::Count(0) => {}
+            _ => self.open_nodes.push(OpenNode { node, lacks })?,
+        }
+        Ok(())
+    }
+
+    /// Begins the next node, as a value of the node that it stands in.
+    pub fn begin(&mut self, lacks: Lacks, sort: Sort) -> Result<(), Stop>
+        ensures { Builds result (built_of self.new) (with_node lacks sort (built_of self.old)) }
+    {
+        // There are never so many nodes that their numbers run out.
+        let Ok(node) = u32::try_from(self.nodes.len()) else {
+            return Err(Stop::NoMemory);
+        };
+        self.give(Value::Node(node))?;
+        self.begin_at(lacks, sort, node)?;
+        Ok(())
+    }
+
+    /// Whether the last root has ended.
+    pub fn lacks_none(&self) -> bool
+        ensures { result ≡ lacks_none (built_of self.now).open_nodes self.now.wanted }
+    {
+        self.open_nodes.is_empty() && self.wanted == 0
+    }
+}
