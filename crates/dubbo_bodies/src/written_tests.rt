@@ -18,18 +18,25 @@ fn chars(alloc: Global, text: &str) -> Result<Chars, AllocError> {
     Ok(Chars::from(String::from_str(alloc, text)?))
 }
 
+/// A table of one type, whose name is a.
+fn one_type(alloc: Global) -> Result<Texts, AllocError> {
+    let name = chars(alloc, "a")?;
+    Ok(Texts::from(vec![in alloc; name]?))
+}
+
 /// Parts with one type, whose name is a.
 fn parts(alloc: Global, roots: Vec<Value>, nodes: Vec<Node>) -> Result<Parts, AllocError> {
+    let types = one_type(alloc)?;
     Ok(Parts {
         roots: Items::from(roots),
         nodes: Nodes::from(nodes),
-        types: Texts::from(vec![in alloc; chars(alloc, "a")?]?),
+        types,
         classes: Classes::from(Vec::<Class>::new(alloc)),
     })
 }
 
-/// A graph of these parts; one of no roots where they are none.
-fn graph(alloc: Global, parts: Parts) -> Result<Graph, Fail> {
+/// A graph of these parts.
+fn graph(parts: Parts) -> Result<Graph, Fail> {
     if parts.nodes.as_slice().len() > 2_000_000 {
         return Err(Fail::new("too many nodes"));
     }
@@ -38,8 +45,15 @@ fn graph(alloc: Global, parts: Parts) -> Result<Graph, Fail> {
 
 /// A graph of one root that is no node.
 fn plain(alloc: Global, root: Value) -> Result<Graph, Fail> {
-    let parts = parts(alloc, vec![in alloc; root]?, Vec::new(alloc))?;
-    graph(alloc, parts)
+    let roots = vec![in alloc; root]?;
+    let parts = parts(alloc, roots, Vec::new(alloc))?;
+    graph(parts)
+}
+
+/// A graph whose one root is a text.
+fn text(alloc: Global, text: &str) -> Result<Graph, Fail> {
+    let text = chars(alloc, text)?;
+    plain(alloc, Value::Text(text))
 }
 
 /// An empty list of the one type.
@@ -48,6 +62,82 @@ fn typed_list(alloc: Global) -> Node {
         type_name: Some(0),
         items: Items::from(Vec::new(alloc)),
     }
+}
+
+/// Two empty lists of the one type; the first is the first and the third root.
+fn shared(alloc: Global) -> Result<Graph, Fail> {
+    let roots = vec![in alloc; Value::Node(0), Value::Node(1), Value::Node(0)]?;
+    let nodes = vec![in alloc; typed_list(alloc), typed_list(alloc)]?;
+    let parts = parts(alloc, roots, nodes)?;
+    graph(parts)
+}
+
+/// An attachment.
+fn attachment(alloc: Global, name: &str, value: &str) -> Result<Attachment, AllocError> {
+    let name = chars(alloc, name)?;
+    let value = chars(alloc, value)?;
+    Ok(Attachment { name, value })
+}
+
+/// Attachments with these names and values.
+fn attachments(alloc: Global, pairs: &[(&str, &str)]) -> Result<Attachments, AllocError> {
+    let mut all = Vec::new(alloc);
+    for (name, value) in pairs {
+        all.push(attachment(alloc, name, value)?)?;
+    }
+    Ok(Attachments::from(all))
+}
+
+/// The three texts of a request that name its service.
+#[derive(Drop)]
+struct Service {
+    path: Chars,
+    version: Chars,
+    method: Chars,
+}
+
+/// The texts that name a service.
+fn of_service(
+    alloc: Global,
+    path: &str,
+    version: &str,
+    method: &str,
+) -> Result<Service, AllocError> {
+    let path = chars(alloc, path)?;
+    let version = chars(alloc, version)?;
+    let method = chars(alloc, method)?;
+    Ok(Service {
+        path,
+        version,
+        method,
+    })
+}
+
+/// A request of a service.
+fn request(
+    alloc: Global,
+    dubbo: &str,
+    desc: &str,
+    service: Service,
+    args: Graph,
+    attachments: Attachments,
+) -> Result<Request, AllocError> {
+    let dubbo = chars(alloc, dubbo)?;
+    let desc = chars(alloc, desc)?;
+    let Service {
+        path,
+        version,
+        method,
+    } = service;
+    Ok(Request {
+        dubbo,
+        path,
+        version,
+        method,
+        desc,
+        args,
+        attachments,
+    })
 }
 
 /// The body of a request, if it can be written.
@@ -75,94 +165,116 @@ fn reply_body(alloc: Global, reply: &Reply) -> Result<Result<Vec<u8>, WriteBodyF
     }
 }
 
-/// An attachment.
-fn attachment(alloc: Global, name: &str, value: &str) -> Result<Attachment, AllocError> {
-    Ok(Attachment {
-        name: chars(alloc, name)?,
-        value: chars(alloc, value)?,
-    })
+/// Whether the body of a reply is these bytes.
+fn is_reply(alloc: Global, reply: &Reply, bytes: &[u8]) -> Result<bool, Fail> {
+    let body = reply_body(alloc, reply)??;
+    Ok(body.as_slice() == bytes)
+}
+
+/// The body of the call of a service that greets.
+fn greeting(alloc: Global) -> Result<Vec<u8>, Fail> {
+    let pairs = [
+        ("path", PATH),
+        ("interface", PATH),
+        ("version", "0.0.0"),
+        ("timeout", "1000"),
+    ];
+    let attachments = attachments(alloc, &pairs)?;
+    let service = of_service(alloc, PATH, "0.0.0", "sayHello")?;
+    let args = text(alloc, "world")?;
+    let request = request(
+        alloc,
+        "2.0.2",
+        "Ljava/lang/String;",
+        service,
+        args,
+        attachments,
+    )?;
+    request_body(alloc, &request)
 }
 
 #[test]
 fn a_request_is_written_as_drawn(rt: HostRuntime) -> Result<(), Fail> {
-    let alloc = rt.alloc();
-    let request = Request {
-        dubbo: chars(alloc, "2.0.2")?,
-        path: chars(alloc, PATH)?,
-        version: chars(alloc, "0.0.0")?,
-        method: chars(alloc, "sayHello")?,
-        desc: chars(alloc, "Ljava/lang/String;")?,
-        args: plain(alloc, Value::Text(chars(alloc, "world")?))?,
-        attachments: Attachments::from(vec![in alloc;
-            attachment(alloc, "path", PATH)?,
-            attachment(alloc, "interface", PATH)?,
-            attachment(alloc, "version", "0.0.0")?,
-            attachment(alloc, "timeout", "1000")?,
-        ]?),
-    };
     let front =
         b"\x052.0.2\x30\x21org.apache.dubbo.demo.DemoService\x050.0.0\x08sayHello\x12Ljava/lang/String;\x05world";
     let map =
         b"H\x04path\x30\x21org.apache.dubbo.demo.DemoService\x09interface\x30\x21org.apache.dubbo.demo.DemoService\x07version\x050.0.0\x07timeout\x041000Z";
-    let body = request_body(alloc, &request)?;
+    let body = greeting(rt.alloc())?;
     assert_eq!(rt; body.len(), 195);
-    assert_eq!(rt; &body[..front.len()], &front[..]);
-    assert_eq!(rt; &body[front.len()..], &map[..]);
+    assert_eq!(rt; body.starts_with(front), true);
+    assert_eq!(rt; body.ends_with(map), true);
     Ok(())
+}
+
+/// The body of a call without names, of three arguments that share a type and a node.
+fn sharing(alloc: Global) -> Result<Vec<u8>, Fail> {
+    let attachments = attachments(alloc, &[])?;
+    let service = of_service(alloc, "", "", "")?;
+    let args = shared(alloc)?;
+    let request = request(alloc, "", "[I[I[I", service, args, attachments)?;
+    request_body(alloc, &request)
 }
 
 #[test]
 fn arguments_share_their_tables(rt: HostRuntime) -> Result<(), Fail> {
-    let alloc = rt.alloc();
-    let roots = vec![in alloc; Value::Node(0), Value::Node(1), Value::Node(0)]?;
-    let nodes = vec![in alloc; typed_list(alloc), typed_list(alloc)]?;
-    let request = Request {
-        dubbo: chars(alloc, "")?,
-        path: chars(alloc, "")?,
-        version: chars(alloc, "")?,
-        method: chars(alloc, "")?,
-        desc: chars(alloc, "[I[I[I")?,
-        args: graph(alloc, parts(alloc, roots, nodes)?)?,
-        attachments: Attachments::from(Vec::new(alloc)),
-    };
+    let body = sharing(rt.alloc())?;
     assert_eq!(rt;
-        request_body(alloc, &request)?.as_slice(),
+        body.as_slice(),
         b"\0\0\0\0\x06[I[I[I\x70\x01a\x70\x90\x51\x90HZ".as_slice()
     );
     Ok(())
 }
 
 #[test]
-fn replies_are_written_as_drawn(rt: HostRuntime) -> Result<(), Fail> {
-    let alloc = rt.alloc();
-    let null = Reply::Value(plain(alloc, Value::Null)?);
-    assert_eq!(rt; reply_body(alloc, &null)??.as_slice(), b"\x92".as_slice());
-    let world = Reply::Value(plain(alloc, Value::Text(chars(alloc, "world")?))?);
-    assert_eq!(rt;
-        reply_body(alloc, &world)??.as_slice(),
-        b"\x91\x05world".as_slice()
-    );
-    let threw = Reply::Threw(plain(alloc, Value::Null)?);
-    assert_eq!(rt; reply_body(alloc, &threw)??.as_slice(), b"\x90N".as_slice());
-    let text = chars(alloc, "service not found")?;
-    let status = Reply::Status { code: 60, text };
-    assert_eq!(rt;
-        reply_body(alloc, &status)??.as_slice(),
-        b"\x11service not found".as_slice()
-    );
+fn the_value_null_is_its_kind(rt: HostRuntime) -> Result<(), Fail> {
+    let null = Reply::Value(plain(rt.alloc(), Value::Null)?);
+    assert_eq!(rt; is_reply(rt.alloc(), &null, b"\x92")?, true);
     Ok(())
 }
 
 #[test]
-fn a_body_has_8388608_bytes_at_most(rt: HostRuntime) -> Result<(), Fail> {
-    let alloc = rt.alloc();
-    let contents = Octets::from(vec![in alloc; 0; 8_387_839]?);
-    let longest = Reply::Value(plain(alloc, Value::Bytes(contents))?);
-    assert_eq!(rt; reply_body(alloc, &longest)??.len(), 8_388_608);
-    let contents = Octets::from(vec![in alloc; 0; 8_387_840]?);
-    let longer = Reply::Value(plain(alloc, Value::Bytes(contents))?);
+fn a_value_stands_behind_its_kind(rt: HostRuntime) -> Result<(), Fail> {
+    let world = Reply::Value(text(rt.alloc(), "world")?);
+    assert_eq!(rt; is_reply(rt.alloc(), &world, b"\x91\x05world")?, true);
+    Ok(())
+}
+
+#[test]
+fn an_exception_stands_behind_its_kind(rt: HostRuntime) -> Result<(), Fail> {
+    let threw = Reply::Threw(plain(rt.alloc(), Value::Null)?);
+    assert_eq!(rt; is_reply(rt.alloc(), &threw, b"\x90N")?, true);
+    Ok(())
+}
+
+#[test]
+fn the_text_of_a_status_stands_alone(rt: HostRuntime) -> Result<(), Fail> {
+    let text = chars(rt.alloc(), "service not found")?;
+    let status = Reply::Status { code: 60, text };
     assert_eq!(rt;
-        reply_body(alloc, &longer)?.err(),
+        is_reply(rt.alloc(), &status, b"\x11service not found")?,
+        true
+    );
+    Ok(())
+}
+
+/// A reply of so many bytes that are 0.
+fn zeros(alloc: Global, count: usize) -> Result<Reply, Fail> {
+    let contents = Octets::from(vec![in alloc; 0; count]?);
+    Ok(Reply::Value(plain(alloc, Value::Bytes(contents))?))
+}
+
+#[test]
+fn a_body_may_have_8388608_bytes(rt: HostRuntime) -> Result<(), Fail> {
+    let longest = zeros(rt.alloc(), 8_387_839)?;
+    assert_eq!(rt; reply_body(rt.alloc(), &longest)??.len(), 8_388_608);
+    Ok(())
+}
+
+#[test]
+fn a_body_of_8388609_bytes_is_too_long(rt: HostRuntime) -> Result<(), Fail> {
+    let longer = zeros(rt.alloc(), 8_387_840)?;
+    assert_eq!(rt;
+        reply_body(rt.alloc(), &longer)?.err(),
         Some(WriteBodyFault::TooLong { length: 8_388_609 })
     );
     Ok(())

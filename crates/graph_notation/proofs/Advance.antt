@@ -1,10 +1,7 @@
 -- From token to token.
-use Rattle.std.proofs.Common.{◌≡◌, ℕ, zero, suc, ◌+◌, ◌-◌, ◌<◌, ◌≤◌, Bool, true, false, List, [], ◌∷◌, ◌++◌, length, get_or, take, drop, refl, ap, sym, ◌∙◌, subst, arith, inl, inr, ◌⊎◌, append_assoc, length-append, drop-cons}
-use Rattle.std.specs.Prelude.{Option, Some, None, Result, Ok, Err}
-use Rattle.std.specs.List.{AllZip}
-use Rattle.std.proofs.lemmas.List.{append-nil, drop_all}
+use Rattle.std.proofs.Common.{◌≡◌, ℕ, zero, suc, ◌+◌, ◌-◌, ◌<◌, ◌≤◌, List, [], ◌∷◌, ◌++◌, length, get_or, take, drop, refl, ap, sym, ◌∙◌, subst, arith, drop-cons}
+use Rattle.std.specs.Prelude.{Ok, Err}
 use Rattle.graph_notation.specs.declared.element.Element.{Element}
-use Rattle.graph_notation.specs.declared.frame.Cause.{Cause}
 use Rattle.graph_notation.specs.declared.frame.Cause.TheVariants.{Bad, Unknown, TooMany}
 use Rattle.graph_notation.specs.declared.stop.Stop.{Stop}
 use Rattle.graph_notation.specs.declared.stop.Stop.TheVariants.{Refused, NoMemory}
@@ -15,7 +12,7 @@ use Rattle.graph_notation.specs.Lexing.{token_length}
 use Rattle.graph_notation.specs.Elements.{Reads}
 use Rattle.graph_notation.specs.Notation.{ReadAs}
 use Rattle.graph_notation.specs.Machine.{State, start, step, run, and_then}
-use Rattle.graph_notation.specs.Progress.{SoFar, TokenAt, Taken, Untaken, fault_of, ReadsOn, StoppedAt}
+use Rattle.graph_notation.specs.Progress.{SoFar, TokenAt, Taken, fault_of, ReadsOn}
 use Rattle.graph_notation.specs.Progress.Untaken.{unread, bad, unknown, too_many, no_memory}
 use Rattle.graph_notation.specs.View.{Steps}
 use Rattle.graph_notation.proofs.Nexts.{stepped}

@@ -1,8 +1,8 @@
 -- Nodes are put together from what was read.
-use Rattle.std.proofs.Common.{◌≡◌, ℕ, zero, suc, ◌+◌, ◌<◌, ◌≤◌, ◌^◌, List, [], ◌∷◌, ◌++◌, length, get_or, map, reverse, refl, ap, sym, ◌∙◌, subst, arith, inl, inr, ◌⊎◌, append_assoc, length-append, add-zero}
+use Rattle.std.proofs.Common.{◌≡◌, ℕ, suc, ◌+◌, ◌<◌, ◌≤◌, ◌^◌, List, [], ◌∷◌, ◌++◌, length, get_or, map, reverse, refl, ap, sym, ◌∙◌, subst, arith, inl, inr, append_assoc, length-append}
 use Rattle.std.specs.Prelude.{◌-◌, Option, Some, None, Result, Ok, Err, IfOk}
 use Rattle.std.proofs.lemmas.Bool.{cases_eq}
-use Rattle.std.proofs.lemmas.List.{append-nil, reverse-append, map-append, length-map, get_or_append_left, get_or-append-add}
+use Rattle.std.proofs.lemmas.List.{append-nil, reverse-append, map-append, length-map, get_or_append_left}
 use Rattle.hessian_graph.specs.declared.value.Value.{Value}
 use Rattle.hessian_graph.specs.declared.value.Pair.{Pair}
 use Rattle.hessian_graph.specs.declared.node.Node.{Node}
@@ -13,7 +13,7 @@ use Rattle.hessian_graph.specs.Tables.{NumberBelow}
 use Rattle.hessian_graph.specs.Moving.{NamesThere, AllThere, ClassFits}
 use Rattle.graph_notation.specs.declared.frame.Frame.{Frame}
 use Rattle.graph_notation.specs.Machine.{shown, kind_of as frame_kind}
-use Rattle.graph_notation.specs.Built.{Grows, IsLast, AreBuilt}
+use Rattle.graph_notation.specs.Built.{Grows, AreBuilt}
 use Rattle.graph_notation.specs.Whole.{AllGood, Fits, IsEven}
 use Rattle.graph_notation.specs.declared.element.Element.{Element}
 use Rattle.graph_notation.specs.Forms.{SpellsGraph}

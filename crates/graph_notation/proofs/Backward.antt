@@ -1,6 +1,6 @@
 -- What is read to its end is spelled.
 use Rattle.std.proofs.Common.{◌≡◌, ℕ, zero, suc, ◌+◌, ◌<◌, ◌≤◌, Bool, true, false, List, [], ◌∷◌, ◌++◌, length, set, refl, ap, sym, ◌∙◌, subst, arith, inl, inr, ◌⊎◌, append_assoc, length-append}
-use Rattle.std.specs.Prelude.{nat_lt, ◌&&◌, not, if◌then◌else◌, Option, Some, None, Result, Ok, Err}
+use Rattle.std.specs.Prelude.{nat_lt, ◌&&◌, not, if◌then◌else◌, Some, None, Ok, Err}
 use Rattle.std.proofs.lemmas.Bool.{and_parts, ltb-true}
 use Rattle.std.proofs.lemmas.List.{append-nil}
 use Rattle.hessian_graph.specs.declared.value.Value.{Value}
@@ -14,18 +14,17 @@ use Rattle.graph_notation.specs.declared.frame.Head.TheVariants as heads
 use Rattle.graph_notation.specs.declared.frame.Frame.{Frame}
 use Rattle.graph_notation.specs.declared.frame.Place.{Place}
 use Rattle.graph_notation.specs.declared.frame.Place.TheVariants as places
-use Rattle.graph_notation.specs.declared.frame.Cause.{Cause}
-use Rattle.graph_notation.specs.declared.frame.Cause.TheVariants.{Bad, Unknown, TooMany}
+use Rattle.graph_notation.specs.declared.frame.Cause.TheVariants.{Bad, Unknown}
 use Rattle.graph_notation.specs.Forms.{Form, Items, Pairs, Fields, Brackets, Spells, Entry, Joined, Entries}
 use Rattle.graph_notation.specs.Forms.Brackets.{list as list_row, typed_list as typed_list_row, map as map_row, typed_map as typed_map_row, object as object_row}
 use Rattle.graph_notation.specs.Forms.Spells.{plain as plain_row, words as words_row, reference as reference_row, node as node_row}
 use Rattle.graph_notation.specs.Forms.Entry.{item as item_row, pair as pair_row, field as field_row}
 use Rattle.graph_notation.specs.Forms.Joined.{last as last_row, more as more_row}
 use Rattle.graph_notation.specs.Forms.Entries.{none as none_row, some as some_row}
-use Rattle.graph_notation.specs.Machine.{State, new_frame, kind_of, shown, fed, flips, opens, goes_to, gives, named, closed, wants_value, may_end, may_go_on, wants_colon, is_list, is_map, is_object, room, run, step, and_then, end_step, bracket_step, typed_list, typed_map, typed_object}
+use Rattle.graph_notation.specs.Machine.{State, new_frame, kind_of, shown, fed, opens, goes_to, closed, wants_value, may_end, may_go_on, wants_colon, is_list, is_map, is_object, room, run, and_then, end_step, bracket_step, typed_object}
 use Rattle.graph_notation.proofs.Stages.{at, form_of, grown, set_there, goes}
 use Rattle.graph_notation.proofs.Forward.{IsOpen, item_fed, pair_fed, key_waits, with_name, field_fed, grown_none, grown_more, wants_item, wants_key, wants_name}
-use Rattle.graph_notation.proofs.Nexts.{IsForm, AllForms, Done, Stepped, stepped, ok_is, unequal, chosen, roomed, IsNoEnd, end_of, Ended, refused, not_done, not_inside, ColonNext, colon_after_field, colon_after_key, keyed, unkeyed, NoComma, comma_or_not, EndNext, end_next, end_after, none_after, ends_list, ends_map, ends_object, no_end_here, prefix_of, HeadNext, head_next}
+use Rattle.graph_notation.proofs.Nexts.{AllForms, Done, stepped, ok_is, unequal, chosen, roomed, IsNoEnd, end_of, refused, not_done, not_inside, colon_after_field, colon_after_key, keyed, unkeyed, NoComma, comma_or_not, EndNext, end_next, end_after, ends_list, ends_map, ends_object, prefix_of, head_next}
 
 -- a value that was read at the front
 pub record ValueRead (bound : ℕ) (nodes : List NodeShape) (f : Frame) (under : List Frame) (es : List Element) (t : State) : Type 0 where

@@ -1,12 +1,11 @@
 -- The reader's vectors.
-use Rattle.std.proofs.Common.{◌≡◌, ℕ, zero, suc, List, [], ◌∷◌, ◌++◌, set, refl, ap, sym, ◌∙◌, map, reverse}
-use Rattle.std.specs.Prelude.{Result, Ok, Err}
+use Rattle.std.proofs.Common.{◌≡◌, ℕ, zero, suc, List, [], ◌∷◌, ◌++◌, set, refl, ap, map, reverse}
+use Rattle.std.specs.Prelude.{Ok}
 use Rattle.std.proofs.lemmas.List.{reverse-append}
-use Rattle.hessian_graph.specs.Shape.{NodeShape}
 use Rattle.graph_notation.specs.declared.frame.Frame.{Frame}
 use Rattle.graph_notation.specs.declared.frame.Place.{Place}
 use Rattle.graph_notation.specs.declared.frame.Place.TheVariants as places
-use Rattle.graph_notation.specs.Machine.{State, shown, closed}
+use Rattle.graph_notation.specs.Machine.{shown, closed}
 use Rattle.graph_notation.proofs.Stages.{at}
 
 pub map_set : {X Y : Type 0} (f : X → Y) (xs : List X) (i : ℕ) (x : X) → map f (set xs i x) ≡ set (map f xs) i (f x)

@@ -1,5 +1,5 @@
 -- Steps through a text, byte by byte.
-use Rattle.std.proofs.Common.{◌≡◌, ℕ, suc, ◌+◌, ◌<◌, ◌≤◌, Bool, true, false, List, [], ◌∷◌, length, get_or, drop, refl, ap, sym, ◌∙◌, add-one, drop-cons}
+use Rattle.std.proofs.Common.{◌≡◌, ℕ, suc, ◌+◌, ◌<◌, ◌≤◌, Bool, true, false, List, length, get_or, drop, ap, ◌∙◌, add-one, drop-cons}
 use Rattle.std.specs.Prelude.{nat_eq, not, ◌&&◌, if◌then◌else◌}
 use Rattle.std.proofs.lemmas.List.{drop_all}
 use Rattle.graph_notation.specs.Tokens.{is_word_byte}

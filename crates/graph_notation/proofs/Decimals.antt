@@ -1,6 +1,6 @@
 -- Bytes that write a number in decimal.
-use Rattle.std.proofs.Common.{◌≡◌, ℕ, ℤ, suc, ◌+◌, ◌<◌, ◌≤◌, ◌^◌, List, [], ◌∷◌, ◌++◌, length, get_or, None, Some, Result, Ok, Err, MatchResult, sym, ap, subst, ◌∙◌, arith, refl, inl, inr, ◌⊎◌}
-use Rattle.std.specs.Prelude.{decimal, pos, negsuc, All}
+use Rattle.std.proofs.Common.{◌≡◌, ℕ, ℤ, ◌<◌, ◌^◌, List, None, Some, Result, Ok, Err, MatchResult, sym, ap, subst, ◌∙◌, arith}
+use Rattle.std.specs.Prelude.{decimal}
 use Rattle.std.specs.Fmt.{signed_decimal}
 use Rattle.std.specs.Int.{w32, w64, Width}
 use Rattle.std.specs.Int.RustNames.{FitsSigned}

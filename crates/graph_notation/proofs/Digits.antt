@@ -1,17 +1,17 @@
 -- Contents are read exactly.
-use Rattle.std.proofs.Common.{◌≡◌, ◌≢◌, ℕ, zero, suc, ◌+◌, ◌-◌, ◌*◌, ◌/◌, ◌%◌, ◌<◌, ◌≤◌, ◌^◌, Bool, true, false, cond, List, [], ◌∷◌, ◌++◌, length, get_or, drop, refl, ap, sym, ◌∙◌, subst, arith, inl, inr, ◌⊎◌, append_assoc, length-append, add-one, drop-cons, map}
-use Rattle.std.specs.Prelude.{nat_eq, nat_lt, nat_le, not, ◌&&◌, ◌||◌, if◌then◌else◌, Option, Some, None, All}
+use Rattle.std.proofs.Common.{◌≡◌, ℕ, zero, suc, ◌+◌, ◌*◌, ◌/◌, ◌%◌, ◌<◌, ◌≤◌, ◌^◌, Bool, true, false, List, [], ◌∷◌, ◌++◌, length, get_or, drop, refl, ap, sym, ◌∙◌, subst, arith, inl, inr, ◌⊎◌, append_assoc, length-append, add-one, drop-cons, map}
+use Rattle.std.specs.Prelude.{nat_eq, nat_lt, ◌&&◌, ◌||◌, if◌then◌else◌, Option, Some, None, All}
 use Rattle.std.specs.List.{flat_map}
 use Rattle.std.specs.Char.{encode_utf8, IsScalar}
 use lib.Utf8.{scalar}
-use Rattle.std.proofs.lemmas.Bool.{cases_Bool, ne_eqb, eqb-true, eqb-false, and_parts, ltb-true, lt-ltb, le-ltb, lt-leb, leb-true, le-leb}
+use Rattle.std.proofs.lemmas.Bool.{cases_Bool, ne_eqb, eqb-true, eqb-false, and_parts, ltb-true, lt-ltb}
 use Rattle.std.proofs.lemmas.List.{append-nil, drop_all}
 use Rattle.std.proofs.Math.Nat.{pow-suc}
 use Rattle.graph_notation.specs.declared.contents.Mode.{Mode}
 use Rattle.graph_notation.specs.declared.contents.Mode.TheVariants as modes
 use Rattle.graph_notation.specs.Elements.{hex_digit, hex_pair, hex_value, is_control, Quoted}
 use Rattle.graph_notation.specs.Elements.Quoted.{none, plain, quote, backslash, code}
-use Rattle.graph_notation.specs.Unquoting.{digit_of, Turn, one_digit, turn, behind, turned, ended, unquoted, Small, Turns, paired, unhexed}
+use Rattle.graph_notation.specs.Unquoting.{digit_of, Turn, one_digit, turn, behind, turned, ended, unquoted, paired, unhexed}
 
 pub digit_back : (d : ℕ) → d < 16 → digit_of (hex_digit d) ≡ Some d
 digit_back d h = grind arith

@@ -1,11 +1,9 @@
 -- A token is one element.
-use Rattle.std.proofs.Common.{◌≡◌, ◌≢◌, ℕ, ℤ, zero, suc, ◌+◌, ◌-◌, ◌/◌, ◌%◌, ◌<◌, ◌≤◌, ◌^◌, Bool, true, false, List, [], ◌∷◌, ◌++◌, length, get_or, refl, ap, sym, ◌∙◌, subst, arith, inl, inr, ◌⊎◌, append_assoc, length-append}
-use Rattle.std.specs.Prelude.{nat_eq, nat_le, ◌||◌, ◌&&◌, if◌then◌else◌, codes, decimal, pos, negsuc, Option, Some, None, FitsSigned, All}
+use Rattle.std.proofs.Common.{◌≡◌, ℕ, ℤ, zero, suc, ◌+◌, ◌-◌, ◌%◌, ◌<◌, ◌≤◌, ◌^◌, Bool, true, false, List, [], ◌∷◌, ◌++◌, length, get_or, refl, ap, sym, ◌∙◌, arith, inl, inr, ◌⊎◌, length-append}
+use Rattle.std.specs.Prelude.{nat_eq, nat_le, ◌||◌, ◌&&◌, if◌then◌else◌, decimal, pos, negsuc, Option, Some}
 use Rattle.std.specs.Fmt.{signed_decimal}
-use Rattle.std.specs.Int.{w32, w64}
 use Rattle.std.specs.Int.Signed.{mag}
-use Rattle.std.specs.List.{flat_map, AllZip}
-use Rattle.std.proofs.lemmas.Bool.{ne_eqb, lt-leb, le-leb}
+use Rattle.std.proofs.lemmas.Bool.{ne_eqb, le-leb}
 use Rattle.std.proofs.lemmas.Fmt.{decimal_by_steps, decimal_injective, signed_decimal_injective}
 use Rattle.hessian_graph.specs.declared.value.Value.TheVariants as values
 use Rattle.graph_notation.specs.declared.element.Mark.{Mark}
@@ -14,7 +12,7 @@ use Rattle.graph_notation.specs.declared.element.Element.{Element}
 use Rattle.graph_notation.specs.declared.element.Element.TheVariants.{Plain, Words, Reference, Sign}
 use Rattle.graph_notation.specs.declared.contents.Mode.TheVariants as modes
 use Rattle.graph_notation.specs.Tokens.{Token}
-use Rattle.graph_notation.specs.Elements.{Reads, Quoted, mark_byte, hex_pair}
+use Rattle.graph_notation.specs.Elements.{Reads, mark_byte}
 use Rattle.graph_notation.specs.Elements.Reads.{null, yes, no, int, long, date, binary, words, reference, sign}
 use Rattle.graph_notation.specs.Notation.{ReadAs}
 use Rattle.graph_notation.specs.Unquoting.{unquoted, unhexed}

@@ -1,9 +1,9 @@
 -- What is read is exactly what is spelled.
-use Rattle.std.proofs.Common.{◌≡◌, ℕ, zero, suc, ◌+◌, ◌<◌, ◌≤◌, Bool, true, false, List, [], ◌∷◌, ◌++◌, length, set, refl, ap, sym, ◌∙◌, subst, arith, inl, inr, ◌⊎◌, append_assoc, length-append}
-use Rattle.std.specs.Prelude.{nat_lt, ◌&&◌, not, if◌then◌else◌, Option, Some, None, Result, Ok, Err}
+use Rattle.std.proofs.Common.{◌≡◌, ℕ, suc, ◌≤◌, true, false, List, [], ◌∷◌, ◌++◌, length, refl, ap, sym, ◌∙◌, subst, arith, inl, inr}
+use Rattle.std.specs.Prelude.{None, Ok}
 use Rattle.std.proofs.lemmas.List.{append-nil}
 use Rattle.hessian_graph.specs.declared.value.Value.{Value}
-use Rattle.hessian_graph.specs.Shape.{Text, NodeShape, Shape}
+use Rattle.hessian_graph.specs.Shape.{NodeShape, Shape}
 use Rattle.graph_notation.specs.declared.element.Mark.TheVariants.{BeginList, EndList, BeginMap, EndMap, BeginFields, EndFields, Comma, Colon, Named}
 use Rattle.graph_notation.specs.declared.element.Element.{Element}
 use Rattle.graph_notation.specs.declared.element.Element.TheVariants.{Plain, Words, Reference, Sign}
@@ -11,13 +11,13 @@ use Rattle.graph_notation.specs.declared.frame.Head.TheVariants as heads
 use Rattle.graph_notation.specs.declared.frame.Frame.{Frame}
 use Rattle.graph_notation.specs.declared.frame.Place.{Place}
 use Rattle.graph_notation.specs.declared.frame.Place.TheVariants as places
-use Rattle.graph_notation.specs.Forms.{Items, Joined, Entries, SpellsGraph}
+use Rattle.graph_notation.specs.Forms.{Items, Entries, SpellsGraph}
 use Rattle.graph_notation.specs.Forms.Entries.{none as none_row, some as some_row}
-use Rattle.graph_notation.specs.Machine.{State, start, new_frame, fed, is_whole, may_end, is_outermost, is_list, is_map, is_object, run, step, and_then, end_step, graph_of}
-use Rattle.graph_notation.proofs.Stages.{at, form_of, grown, IsEnd}
-use Rattle.graph_notation.proofs.Forward.{Behind, entries_goes, grown_none, IsOpen}
-use Rattle.graph_notation.proofs.Nexts.{AllForms, Done, done_of, ok_is, IsNoEnd, NoComma, none_after, unkeyed, stepped, no_end_outside}
-use Rattle.graph_notation.proofs.Backward.{JoinedRead, joined_read, value_read, unnamed}
+use Rattle.graph_notation.specs.Machine.{State, start, new_frame, is_whole, run, end_step, graph_of}
+use Rattle.graph_notation.proofs.Stages.{at, grown, IsEnd}
+use Rattle.graph_notation.proofs.Forward.{entries_goes}
+use Rattle.graph_notation.proofs.Nexts.{AllForms, done_of, ok_is, IsNoEnd, none_after, stepped, no_end_outside}
+use Rattle.graph_notation.proofs.Backward.{joined_read, value_read, unnamed}
 
 -- elements that were read to their end, as this graph
 pub record ReadTo (bound : ℕ) (es : List Element) (g : Shape) : Type 0 where

@@ -1,5 +1,5 @@
 -- The graph of a notation is canonical.
-use Rattle.std.proofs.Common.{◌≡◌, ◌≢◌, ℕ, zero, suc, ◌+◌, ◌<◌, ◌≤◌, ◌^◌, List, [], ◌∷◌, ◌++◌, length, get_or, take, map, refl, ap, sym, ◌∙◌, subst, arith, inl, inr, ◌⊎◌, append_assoc, length-append, add-one}
+use Rattle.std.proofs.Common.{◌≡◌, ℕ, zero, suc, ◌+◌, ◌<◌, ◌≤◌, ◌^◌, List, [], ◌∷◌, ◌++◌, length, get_or, take, map, refl, ap, sym, ◌∙◌, subst, arith, inl, inr, append_assoc, length-append}
 use Rattle.std.specs.Prelude.{Option, Some, None, All}
 use Rattle.std.proofs.lemmas.Bool.{cases_eq}
 use Rattle.std.proofs.lemmas.List.{append-nil, map-append}
@@ -7,7 +7,7 @@ use Rattle.std.proofs.Math.Seq.{take-suc}
 use Rattle.std.proofs.lemmas.List.{take_all}
 use Rattle.hessian_graph.specs.declared.value.Value.{Value}
 use Rattle.hessian_graph.specs.declared.value.Value.TheVariants as values
-use Rattle.hessian_graph.specs.Shape.{Text, Kind, ListKind, MapKind, ObjectKind, NodeShape, Shape, node_of, no_node, values_at, kind_at}
+use Rattle.hessian_graph.specs.Shape.{Text, Kind, NodeShape, Shape, node_of, no_node, values_at}
 use Rattle.hessian_graph.specs.Canon.{Visit, IsCanon, in_order, moved, renumbered, place_of, place_or_zero}
 use Rattle.hessian_graph.specs.Canon.Visit.{done, plain as visit_plain, again as visit_again, first as visit_first}
 use Rattle.hessian_graph.specs.Work.{NamesBelow, IsClosed}
@@ -20,6 +20,7 @@ use Rattle.graph_notation.specs.Forms.Spells.{plain, words, reference, node}
 use Rattle.graph_notation.specs.Forms.Entry.{item, pair, field}
 use Rattle.graph_notation.specs.Forms.Joined.{last, more}
 use Rattle.graph_notation.specs.Forms.Entries.{none, some}
+use Rattle.graph_notation.specs.Pressing.{upto}
 use Rattle.graph_notation.specs.Whole.{IsEven, Fits, AllBelow, IsGood, AllGood}
 
 below_join : (count : ℕ) (vs ws : List Value) → AllBelow count vs → AllBelow count ws → AllBelow count (vs ++ ws)
@@ -121,19 +122,15 @@ closed g few roots nodes = record {
 }
 
 -- the numbers below a number
-abbrev pub upto : ℕ → List ℕ
-upto zero = []
-upto (suc n) = upto n ++ n ∷ []
-
-upto_long : (n : ℕ) → length (upto n) ≡ n
+pub upto_long : (n : ℕ) → length (upto n) ≡ n
 upto_long zero = refl
 upto_long (suc n) = length-append (upto n) (n ∷ []) ∙ ap (λ k. k + 1) (upto_long n) ∙ omega arith
 
-place_past : (m n : ℕ) → m ≤ n → place_of n (upto m) ≡ None
+pub place_past : (m n : ℕ) → m ≤ n → place_of n (upto m) ≡ None
 place_past zero n h = refl
 place_past (suc m) n h = place_other m n (upto m) (λ e. omega arith) ∙ place_past m n (omega arith)
 
-place_upto : (m k : ℕ) → k < m → place_of k (upto m) ≡ Some k
+pub place_upto : (m k : ℕ) → k < m → place_of k (upto m) ≡ Some k
 place_upto zero k h = absurd (omega arith)
 place_upto (suc m) k h = elim (cases_eq k m) [
   | inl e ↦ subst (λ x. place_of x (upto m ++ m ∷ []) ≡ Some x) (sym e) (place_new m (upto m) [] (place_past m m (omega arith)) ∙ ap Some (upto_long m))

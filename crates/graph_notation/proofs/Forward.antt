@@ -1,12 +1,12 @@
 -- What the notation spells is read.
-use Rattle.std.proofs.Common.{◌≡◌, ℕ, zero, suc, ◌+◌, ◌<◌, ◌≤◌, Bool, true, false, List, [], ◌∷◌, ◌++◌, length, get_or, set, refl, ap, sym, ◌∙◌, subst, arith, append_assoc, length-append, inl, inr, ◌⊎◌}
-use Rattle.std.specs.Prelude.{nat_lt, ◌&&◌, not, if◌then◌else◌, Option, Some, None, Result, Ok, Err}
+use Rattle.std.proofs.Common.{◌≡◌, ℕ, suc, ◌+◌, ◌<◌, ◌≤◌, Bool, true, false, List, [], ◌∷◌, ◌++◌, length, set, refl, ap, sym, ◌∙◌, arith, append_assoc, length-append, inl, inr, ◌⊎◌}
+use Rattle.std.specs.Prelude.{not, Ok}
 use Rattle.std.proofs.lemmas.Bool.{lt-ltb}
 use Rattle.std.proofs.lemmas.List.{append-nil}
 use Rattle.hessian_graph.specs.declared.value.Value.{Value}
 use Rattle.hessian_graph.specs.declared.value.Value.TheVariants as values
-use Rattle.hessian_graph.specs.Shape.{Text, Kind, ListKind, MapKind, ObjectKind, NodeShape, no_node}
-use Rattle.graph_notation.specs.declared.element.Mark.TheVariants.{BeginList, EndList, BeginMap, EndMap, BeginFields, EndFields, Comma, Colon, Named}
+use Rattle.hessian_graph.specs.Shape.{Text, NodeShape, no_node}
+use Rattle.graph_notation.specs.declared.element.Mark.TheVariants.{Comma, Colon}
 use Rattle.graph_notation.specs.declared.element.Element.{Element}
 use Rattle.graph_notation.specs.declared.element.Element.TheVariants.{Plain, Words, Reference, Sign}
 use Rattle.graph_notation.specs.declared.frame.Head.{Head}
@@ -14,12 +14,12 @@ use Rattle.graph_notation.specs.declared.frame.Head.TheVariants as heads
 use Rattle.graph_notation.specs.declared.frame.Frame.{Frame}
 use Rattle.graph_notation.specs.declared.frame.Place.{Place}
 use Rattle.graph_notation.specs.declared.frame.Place.TheVariants as places
-use Rattle.graph_notation.specs.Forms.{Form, Items, Pairs, Fields, Brackets, Spells, Entry, Joined, Entries}
+use Rattle.graph_notation.specs.Forms.{Form, Items, Pairs, Fields, Spells, Entry, Joined, Entries}
 use Rattle.graph_notation.specs.Forms.Spells.{plain, words, reference, node}
 use Rattle.graph_notation.specs.Forms.Entry.{item, pair, field}
 use Rattle.graph_notation.specs.Forms.Joined.{last, more}
 use Rattle.graph_notation.specs.Forms.Entries.{none, some}
-use Rattle.graph_notation.specs.Machine.{State, new_frame, kind_of, shown, fed, flips, opens, closed, wants_value, may_end, is_object, room, run, step, and_then}
+use Rattle.graph_notation.specs.Machine.{new_frame, shown, fed, flips, wants_value, is_object, run, step}
 use Rattle.graph_notation.proofs.Stages.{at, form_of, head_of, grown, IsEnd, goes, head_goes, end_goes, shows, form_is, set_there}
 
 -- where entries may come

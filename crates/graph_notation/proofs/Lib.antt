@@ -18,7 +18,11 @@ pub mod Distinct
 pub mod Verdict
 pub mod Runs
 pub mod OneGraph
+pub mod Pairs
 pub mod Repeating
+pub mod Begun
+pub mod Pressings
+pub mod Printing
 pub mod OneText
 pub mod Rereading
 pub mod OneNotation

@@ -1,8 +1,8 @@
 -- What has been read so far can go on.
-use Rattle.std.proofs.Common.{◌≡◌, ℕ, zero, suc, ◌+◌, ◌<◌, ◌≤◌, Bool, true, false, List, [], ◌∷◌, ◌++◌, length, set, refl, ap, sym, ◌∙◌, subst, arith, inl, inr, ◌⊎◌, append_assoc, length-append}
-use Rattle.std.specs.Prelude.{nat_lt, ◌&&◌, not, if◌then◌else◌, Option, Some, None, Result, Ok, Err}
-use Rattle.std.proofs.lemmas.Bool.{and_parts, ltb-true, cases_Bool}
-use Rattle.std.proofs.lemmas.List.{append-nil, length-set}
+use Rattle.std.proofs.Common.{◌≡◌, ℕ, ◌<◌, ◌≤◌, Bool, true, false, List, [], ◌∷◌, ◌++◌, length, set, refl, ap, sym, ◌∙◌, subst, arith, inl, inr, length-append}
+use Rattle.std.specs.Prelude.{nat_lt, ◌&&◌, if◌then◌else◌, None, Ok, Err}
+use Rattle.std.proofs.lemmas.Bool.{cases_Bool}
+use Rattle.std.proofs.lemmas.List.{length-set}
 use Rattle.hessian_graph.specs.declared.value.Value.{Value}
 use Rattle.hessian_graph.specs.declared.value.Value.TheVariants as values
 use Rattle.hessian_graph.specs.Shape.{Text, NodeShape, no_node}
@@ -15,9 +15,8 @@ use Rattle.graph_notation.specs.declared.frame.Head.TheVariants as heads
 use Rattle.graph_notation.specs.declared.frame.Frame.{Frame}
 use Rattle.graph_notation.specs.declared.frame.Place.{Place}
 use Rattle.graph_notation.specs.declared.frame.Place.TheVariants as places
-use Rattle.graph_notation.specs.declared.frame.Cause.{Cause}
-use Rattle.graph_notation.specs.declared.frame.Cause.TheVariants.{Bad, Unknown, TooMany}
-use Rattle.graph_notation.specs.Machine.{State, start, new_frame, shown, fed, flips, opens, gives, goes_to, named, closed, wants_value, may_end, may_go_on, wants_colon, is_list, is_map, is_object, is_outermost, is_whole, room, run, step, and_then, end_step, bracket_step, name_step, mark_step, reference_step, typed_list, typed_map, typed_object}
+use Rattle.graph_notation.specs.declared.frame.Cause.TheVariants.{Bad, Unknown}
+use Rattle.graph_notation.specs.Machine.{State, start, new_frame, shown, fed, flips, opens, gives, goes_to, named, closed, wants_value, may_end, may_go_on, wants_colon, is_list, is_map, is_object, is_whole, room, run, step, end_step, bracket_step, name_step, mark_step, reference_step, typed_list, typed_map, typed_object}
 use Rattle.graph_notation.proofs.Stages.{at, goes}
 use Rattle.graph_notation.proofs.Nexts.{AllForms, stepped, ok_is, chosen, roomed, end_of, keyed, unkeyed}
 

@@ -1,11 +1,8 @@
 -- What may come next, by the place.
-use Rattle.std.proofs.Common.{◌≡◌, ℕ, zero, suc, ◌+◌, ◌<◌, ◌≤◌, Bool, true, false, List, [], ◌∷◌, ◌++◌, length, set, refl, ap, sym, ◌∙◌, subst, arith, inl, inr, ◌⊎◌}
-use Rattle.std.specs.Prelude.{nat_lt, ◌&&◌, not, if◌then◌else◌, Option, Some, None, Result, Ok, Err}
+use Rattle.std.proofs.Common.{◌≡◌, ℕ, ◌<◌, Bool, true, false, List, [], ◌∷◌, ◌++◌, length, set, refl, ap, sym, ◌∙◌, subst, arith, inl, inr, ◌⊎◌}
+use Rattle.std.specs.Prelude.{nat_lt, ◌&&◌, if◌then◌else◌, Some, None, Result, Ok, Err}
 use Rattle.std.proofs.lemmas.Bool.{and_parts, ltb-true}
-use Rattle.hessian_graph.specs.declared.value.Value.{Value}
-use Rattle.hessian_graph.specs.declared.value.Value.TheVariants as values
-use Rattle.hessian_graph.specs.Shape.{Text, NodeShape, no_node}
-use Rattle.graph_notation.specs.declared.element.Mark.{Mark}
+use Rattle.hessian_graph.specs.Shape.{Text, NodeShape}
 use Rattle.graph_notation.specs.declared.element.Mark.TheVariants.{BeginList, EndList, BeginMap, EndMap, BeginFields, EndFields, Comma, Colon, Named}
 use Rattle.graph_notation.specs.declared.element.Element.{Element}
 use Rattle.graph_notation.specs.declared.element.Element.TheVariants.{Plain, Words, Reference, Sign}
@@ -15,11 +12,10 @@ use Rattle.graph_notation.specs.declared.frame.Frame.{Frame}
 use Rattle.graph_notation.specs.declared.frame.Place.{Place}
 use Rattle.graph_notation.specs.declared.frame.Place.TheVariants as places
 use Rattle.graph_notation.specs.declared.frame.Cause.{Cause}
-use Rattle.graph_notation.specs.declared.frame.Cause.TheVariants.{Bad, Unknown, TooMany}
-use Rattle.graph_notation.specs.Forms.{Form, Items, Pairs, Fields, IsPlain}
-use Rattle.graph_notation.specs.Machine.{State, shown, fed, flips, opens, closed, wants_value, may_end, may_go_on, wants_colon, is_list, is_map, is_object, is_outermost, is_whole, room, run, step, and_then, end_step, bracket_step, typed_list, typed_map, typed_object}
+use Rattle.graph_notation.specs.declared.frame.Cause.TheVariants.{Bad, TooMany}
+use Rattle.graph_notation.specs.Forms.{IsPlain}
+use Rattle.graph_notation.specs.Machine.{State, shown, opens, closed, may_end, is_list, is_map, is_object, is_outermost, is_whole, room, run, step, and_then, end_step}
 use Rattle.graph_notation.proofs.Stages.{at}
-use Rattle.graph_notation.proofs.Forward.{IsOpen}
 
 -- no element but those of plain values stands for one
 abbrev pub IsForm : Element → Type 0

@@ -1,13 +1,12 @@
 -- A text is a notation of at most one graph.
-use Rattle.std.proofs.Common.{◌≡◌, ℕ, ◌+◌, ◌≤◌, List, [], length, refl, ap, sym, ◌∙◌, subst, arith}
-use Rattle.std.specs.Prelude.{Ok}
+use Rattle.std.proofs.Common.{◌≡◌, ℕ, ◌+◌, List, length, refl, ap, sym, ◌∙◌, subst, arith}
 use Rattle.hessian_graph.specs.Shape.{Shape}
 use Rattle.graph_notation.specs.declared.element.Element.{Element}
 use Rattle.graph_notation.specs.Forms.{SpellsGraph}
-use Rattle.graph_notation.specs.Machine.{State, start, run, graph_of}
+use Rattle.graph_notation.specs.Machine.{graph_of}
 use Rattle.graph_notation.specs.Notation.{ReadAs, IsNotation}
 use Rattle.graph_notation.proofs.Nexts.{ok_is}
-use Rattle.graph_notation.proofs.Exact.{ReadTo, read_where_spelled}
+use Rattle.graph_notation.proofs.Exact.{read_where_spelled}
 use Rattle.graph_notation.proofs.Tokens.{one_cut}
 use Rattle.graph_notation.proofs.Distinct.{one_reading}
 

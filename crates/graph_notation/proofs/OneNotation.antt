@@ -1,5 +1,5 @@
 -- Two graphs have one printed notation exactly where they are equal.
-use Rattle.std.proofs.Common.{◌≡◌, ℕ, List, sym, subst}
+use Rattle.std.proofs.Common.{◌≡◌, ℕ, List, subst}
 use Rattle.std.specs.Prelude.{◌↔◌}
 use Rattle.hessian_graph.specs.Shape.{Shape}
 use Rattle.graph_notation.specs.Notation.{IsNotation, IsPrinted}

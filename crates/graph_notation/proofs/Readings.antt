@@ -1,20 +1,19 @@
 -- What a token is by itself.
-use Rattle.std.proofs.Common.{◌≡◌, ◌≢◌, ℕ, ℤ, zero, suc, ◌+◌, ◌-◌, ◌<◌, ◌≤◌, ◌^◌, Bool, true, false, List, [], ◌∷◌, ◌++◌, length, get_or, take, drop, refl, ap, sym, ◌∙◌, subst, arith, inl, inr, ◌⊎◌, append_assoc, length-append, drop-cons}
+use Rattle.std.proofs.Common.{◌≡◌, ◌≢◌, ℕ, ℤ, suc, ◌+◌, ◌-◌, ◌<◌, ◌^◌, true, false, List, [], ◌∷◌, ◌++◌, length, get_or, take, drop, refl, ap, sym, ◌∙◌, subst, arith, length-append}
 use Rattle.std.specs.Prelude.{codes, decimal, Option, Some, None, FitsSigned, All, MatchOption}
 use Rattle.std.specs.Fmt.{signed_decimal}
 use Rattle.std.specs.Int.{w32, w64}
 use Rattle.std.specs.List.{flat_map}
 use Rattle.std.specs.Str.{IsUtf8}
 use Rattle.hessian_graph.specs.declared.value.Value.TheVariants as values
-use Rattle.graph_notation.specs.declared.element.Mark.{Mark}
 use Rattle.graph_notation.specs.declared.element.Element.{Element}
-use Rattle.graph_notation.specs.declared.element.Element.TheVariants.{Plain, Words, Reference, Sign}
+use Rattle.graph_notation.specs.declared.element.Element.TheVariants.{Plain, Words, Reference}
 use Rattle.graph_notation.specs.declared.contents.Mode.TheVariants as modes
 use Rattle.graph_notation.specs.Tokens.{Token}
-use Rattle.graph_notation.specs.Elements.{Reads, Quoted, mark_byte, hex_pair}
+use Rattle.graph_notation.specs.Elements.{Reads, Quoted, hex_pair}
 use Rattle.graph_notation.specs.Elements.Reads.{null, yes, no, int, long, date, binary, words, reference, sign}
 use Rattle.graph_notation.specs.Unquoting.{unquoted, unhexed}
-use Rattle.graph_notation.specs.Words.{IsReading, IsNoValue, IsNoMark, IsNoReference}
+use Rattle.graph_notation.specs.Words.{IsNoValue, IsNoMark, IsNoReference}
 use Rattle.graph_notation.proofs.Digits.{unquoted_where, quoted_where, unhexed_where, hex_where}
 
 pub no_reading : (token : Token) → IsNoMark token → IsNoReference token → IsNoValue token → ((bytes digits : List ℕ) → All (λ b. b < 256) bytes → digits ≡ flat_map hex_pair bytes → token ≢ 0x78 ∷ digits) → ((text : List ℕ) → Reads token (Words text) → ⊥) → (e : Element) → Reads token e → ⊥

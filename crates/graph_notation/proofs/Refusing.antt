@@ -1,7 +1,7 @@
 -- What is refused can't go on, and what isn't can.
-use Rattle.std.proofs.Common.{◌≡◌, ℕ, zero, suc, ◌+◌, ◌<◌, ◌≤◌, Bool, true, false, List, [], ◌∷◌, ◌++◌, length, refl, ap, sym, ◌∙◌, subst, arith, inl, inr, ◌⊎◌, append_assoc, length-append}
-use Rattle.std.specs.Prelude.{nat_lt, ◌&&◌, if◌then◌else◌, Option, Some, None, Result, Ok, Err}
-use Rattle.std.proofs.lemmas.Bool.{ltb-true, lt-ltb, ltb-false}
+use Rattle.std.proofs.Common.{◌≡◌, ℕ, suc, ◌+◌, ◌≤◌, Bool, true, false, List, [], ◌∷◌, ◌++◌, length, refl, ap, sym, ◌∙◌, subst, arith, inl, inr, ◌⊎◌, append_assoc}
+use Rattle.std.specs.Prelude.{nat_lt, ◌&&◌, if◌then◌else◌, None, Result, Ok, Err}
+use Rattle.std.proofs.lemmas.Bool.{lt-ltb}
 use Rattle.hessian_graph.specs.declared.value.Value.TheVariants as values
 use Rattle.hessian_graph.specs.Shape.{Text, Shape}
 use Rattle.graph_notation.specs.declared.frame.Head.{Head}
@@ -18,9 +18,9 @@ use Rattle.graph_notation.specs.declared.frame.Place.TheVariants as places
 use Rattle.graph_notation.specs.Forms.{SpellsGraph}
 use Rattle.graph_notation.specs.Machine.{State, start, gives, opens, goes_to, wants_value, may_end, may_go_on, wants_colon, is_list, is_map, is_object, is_whole, room, run, step, and_then, end_step, bracket_step, name_step, closed, mark_step, reference_step, typed_list, typed_map, typed_object, graph_of}
 use Rattle.graph_notation.specs.Refusal.{GoOn, GoOnWithin}
-use Rattle.graph_notation.proofs.Nexts.{AllForms, IsForm, stepped, ok_is, chosen, roomed}
-use Rattle.graph_notation.proofs.Exact.{ReadTo, read_where_spelled, spelled_where_read}
-use Rattle.graph_notation.proofs.Living.{Sane, sane_start, sane_run, Finish, finish}
+use Rattle.graph_notation.proofs.Nexts.{AllForms, stepped, ok_is, chosen, roomed}
+use Rattle.graph_notation.proofs.Exact.{read_where_spelled, spelled_where_read}
+use Rattle.graph_notation.proofs.Living.{sane_start, sane_run, finish}
 
 run_both : (bound : ℕ) (a b : List Element) (s t : State) → run bound s a ≡ Ok t → run bound s (a ++ b) ≡ run bound t b
 run_both bound [] b s t e = ap (λ x. run bound x b) (ok_is s t e)

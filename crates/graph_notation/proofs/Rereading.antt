@@ -1,17 +1,14 @@
 -- What is printed is read back.
-use Rattle.std.proofs.Common.{◌≡◌, ◌≢◌, ℕ, ℤ, zero, suc, ◌+◌, ◌-◌, ◌*◌, ◌/◌, ◌%◌, ◌<◌, ◌≤◌, ◌^◌, Bool, true, false, List, [], ◌∷◌, ◌++◌, length, map, refl, ap, sym, ◌∙◌, subst, arith, inl, inr, ◌⊎◌, append_assoc, length-append}
-use Rattle.std.specs.Prelude.{nat_eq, nat_lt, nat_le, ◌&&◌, ◌||◌, if◌then◌else◌, codes, decimal, pos, negsuc, Option, Some, None, FitsSigned, All}
+use Rattle.std.proofs.Common.{◌≡◌, ◌≢◌, ℕ, ℤ, zero, suc, ◌+◌, ◌/◌, ◌%◌, ◌<◌, ◌≤◌, ◌^◌, Bool, true, false, List, [], ◌∷◌, ◌++◌, length, map, refl, ap, sym, ◌∙◌, subst, arith, inl, inr, append_assoc, length-append}
+use Rattle.std.specs.Prelude.{nat_eq, nat_lt, nat_le, ◌&&◌, ◌||◌, if◌then◌else◌, decimal, pos, negsuc, All}
 use Rattle.std.specs.Fmt.{signed_decimal}
-use Rattle.std.specs.Int.{w32, w64}
 use Rattle.std.specs.Int.Signed.{mag}
-use Rattle.std.specs.List.{flat_map, AllZip}
+use Rattle.std.specs.List.{flat_map}
 use Rattle.std.specs.Char.{encode_utf8, IsScalar}
-use Rattle.std.specs.Str.{IsUtf8}
 use lib.Utf8.{low_scalar}
 use Rattle.std.proofs.lemmas.Str.{encode_ascii}
 use Rattle.std.proofs.lemmas.Bool.Decides.{nat_tests}
-use Rattle.std.proofs.lemmas.Bool.{cases_Bool, eqb-true, eqb-false, ltb-true, ltb-false, lt-leb, le-leb}
-use Rattle.std.proofs.lemmas.List.{append-nil}
+use Rattle.std.proofs.lemmas.Bool.{cases_Bool, eqb-true, eqb-false, ltb-true, ltb-false, le-leb}
 use Rattle.hessian_graph.specs.declared.value.Value.{Value}
 use Rattle.hessian_graph.specs.declared.value.Value.TheVariants as values
 use Rattle.hessian_graph.specs.Shape.{Text, Kind, NodeShape, Shape}
@@ -19,21 +16,21 @@ use Rattle.graph_notation.specs.declared.element.Mark.{Mark}
 use Rattle.graph_notation.specs.declared.element.Mark.TheVariants as marks
 use Rattle.graph_notation.specs.declared.element.Element.{Element}
 use Rattle.graph_notation.specs.declared.element.Element.TheVariants.{Plain, Words, Reference, Sign}
-use Rattle.graph_notation.specs.Tokens.{Token, is_word_byte, AreWordBytes, BeginsNoWord, Escaped, IsToken, Cut}
+use Rattle.graph_notation.specs.Tokens.{is_word_byte, AreWordBytes, BeginsNoWord, Escaped, IsToken, Cut}
 use Rattle.graph_notation.specs.Tokens.Escaped.{none as e_none, plain as e_plain, escape as e_escape}
 use Rattle.graph_notation.specs.Tokens.IsToken.{word as t_word, whole as t_whole, other as t_other}
 use Rattle.graph_notation.specs.Tokens.Cut.{none as c_none, one as c_one}
-use Rattle.graph_notation.specs.Elements.{Reads, Quoted, mark_byte, hex_digit, hex_pair, hex_value, short_hex, is_control, escaped, quoted, word_of, printed}
+use Rattle.graph_notation.specs.Elements.{Reads, Quoted, mark_byte, hex_digit, hex_pair, hex_value, short_hex, is_control, escaped, word_of, printed}
 use Rattle.graph_notation.specs.Elements.Reads.{null as r_null, yes as r_yes, no as r_no, int as r_int, long as r_long, date as r_date, binary as r_binary, words as r_words, reference as r_reference, sign as r_sign}
 use Rattle.graph_notation.specs.Elements.Quoted.{none as q_none, plain as q_plain, quote as q_quote, backslash as q_backslash, code as q_code}
-use Rattle.graph_notation.specs.Forms.{Form, IsPlain, Brackets, Spells, Entry, Joined, Entries, SpellsGraph}
+use Rattle.graph_notation.specs.Forms.{Form, IsPlain, Brackets, Spells, Entry, Joined, Entries}
 use Rattle.graph_notation.specs.Forms.Brackets.{list, typed_list, map as map_row, typed_map, object}
 use Rattle.graph_notation.specs.Forms.Spells.{plain, words, reference, node}
 use Rattle.graph_notation.specs.Forms.Entry.{item, pair, field}
 use Rattle.graph_notation.specs.Forms.Joined.{last, more}
 use Rattle.graph_notation.specs.Forms.Entries.{none, some}
 use Rattle.graph_notation.specs.Notation.{ReadAs, IsNotation, IsSoundElement, IsSoundWord, IsPrinted}
-use Rattle.graph_notation.proofs.Nexts.{IsForm, AllForms}
+use Rattle.graph_notation.proofs.Nexts.{IsForm}
 use Rattle.graph_notation.proofs.Distinct.{AreDigits, decimal_digits}
 use Rattle.graph_notation.proofs.Decimals.{small_w32, small_w64}
 

@@ -1,24 +1,22 @@
 -- States, and single steps of a reading.
-use Rattle.std.proofs.Common.{◌≡◌, ℕ, zero, suc, ◌+◌, ◌<◌, ◌≤◌, Bool, true, false, List, [], ◌∷◌, ◌++◌, length, get_or, set, refl, ap, sym, ◌∙◌, subst, arith, append_assoc, length-append}
-use Rattle.std.specs.Prelude.{nat_lt, ◌&&◌, not, if◌then◌else◌, Option, Some, None, Result, Ok, Err, ◌⊎◌}
+use Rattle.std.proofs.Common.{◌≡◌, ℕ, ◌<◌, true, false, List, [], ◌∷◌, ◌++◌, length, set, refl, ap, ◌∙◌}
+use Rattle.std.specs.Prelude.{if◌then◌else◌, Some, None, Ok, Err, ◌⊎◌}
 use Rattle.std.proofs.Common.{inl, inr}
 use Rattle.std.proofs.lemmas.Bool.{lt-ltb}
 use Rattle.hessian_graph.specs.declared.value.Value.{Value}
-use Rattle.hessian_graph.specs.declared.value.Value.TheVariants.{Node}
-use Rattle.hessian_graph.specs.Shape.{Text, Kind, ListKind, MapKind, ObjectKind, NodeShape, no_node}
-use Rattle.graph_notation.specs.declared.element.Mark.TheVariants.{BeginList, EndList, BeginMap, EndMap, BeginFields, EndFields, Comma, Colon, Named}
+use Rattle.hessian_graph.specs.Shape.{Text, Kind, ListKind, MapKind, ObjectKind, NodeShape}
+use Rattle.graph_notation.specs.declared.element.Mark.TheVariants.{BeginList, EndList, BeginMap, EndMap, BeginFields, EndFields, Named}
 use Rattle.graph_notation.specs.declared.element.Element.{Element}
-use Rattle.graph_notation.specs.declared.element.Element.TheVariants.{Plain, Words, Reference, Sign}
+use Rattle.graph_notation.specs.declared.element.Element.TheVariants.{Words, Sign}
 use Rattle.graph_notation.specs.declared.frame.Head.{Head}
 use Rattle.graph_notation.specs.declared.frame.Head.TheVariants as heads
 use Rattle.graph_notation.specs.declared.frame.Frame.{Frame}
 use Rattle.graph_notation.specs.declared.frame.Place.{Place}
 use Rattle.graph_notation.specs.declared.frame.Place.TheVariants as places
-use Rattle.graph_notation.specs.declared.frame.Cause.{Cause}
 use Rattle.graph_notation.specs.Forms.{Form, Items, Pairs, Fields, Brackets}
 use Rattle.graph_notation.specs.Forms.Brackets.{list, typed_list, map, typed_map, object}
 use Rattle.graph_notation.specs.declared.frame.Cause.TheVariants.{Bad}
-use Rattle.graph_notation.specs.Machine.{State, new_frame, kind_of, shown, fed, flips, opens, closed, wants_value, may_end, is_object, room, run, step, and_then}
+use Rattle.graph_notation.specs.Machine.{State, new_frame, shown, opens, wants_value, may_end, room, run, step, and_then}
 
 abbrev pub at : List NodeShape → Frame → List Frame → Place → State
 at nodes f under place = record { nodes = nodes; frame = f; under = under; place = place }

@@ -1,16 +1,12 @@
 -- What a reading says of its text.
-use Rattle.std.proofs.Common.{◌≡◌, ◌≢◌, ℕ, zero, suc, ◌+◌, ◌-◌, ◌<◌, ◌≤◌, Bool, true, false, List, [], ◌∷◌, ◌++◌, length, drop, refl, ap, sym, ◌∙◌, subst, arith, inl, inr, ◌⊎◌, append_assoc, length-append, length-drop}
-use Rattle.std.specs.Prelude.{Result, Ok, Err, if◌then◌else◌, nat_lt}
-use Rattle.std.specs.List.{AllZip}
-use Rattle.std.proofs.lemmas.List.{append-nil}
+use Rattle.std.proofs.Common.{◌≡◌, ◌≢◌, ℕ, suc, ◌+◌, ◌-◌, ◌<◌, ◌≤◌, true, false, List, [], ◌∷◌, ◌++◌, length, drop, refl, ap, sym, ◌∙◌, subst, arith, inl, inr, append_assoc, length-append, length-drop}
+use Rattle.std.specs.Prelude.{Ok, Err, nat_lt}
 use Rattle.hessian_graph.specs.declared.value.Value.TheVariants as values
 use Rattle.hessian_graph.specs.Shape.{Shape}
-use Rattle.graph_notation.specs.declared.element.Mark.{Mark}
 use Rattle.graph_notation.specs.declared.element.Element.{Element}
-use Rattle.graph_notation.specs.declared.element.Element.TheVariants.{Plain, Words, Reference, Sign}
+use Rattle.graph_notation.specs.declared.element.Element.TheVariants.{Plain, Reference}
 use Rattle.graph_notation.specs.declared.fault.NotationFault.{NotationFault}
 use Rattle.graph_notation.specs.declared.fault.NotationFault.TheVariants.{BadNotation, UnknownNode, TooManyNodes, OutOfMemory}
-use Rattle.graph_notation.specs.declared.frame.Cause.{Cause}
 use Rattle.graph_notation.specs.declared.frame.Cause.TheVariants.{Bad, Unknown, TooMany}
 use Rattle.graph_notation.specs.Tokens.{Token, IsToken, Cut}
 use Rattle.graph_notation.specs.Tokens.Cut.{none, one}
@@ -18,16 +14,16 @@ use Rattle.graph_notation.specs.Elements.{Reads}
 use Rattle.graph_notation.specs.Elements.Reads.{null, yes, no, int, long, date, binary, words, reference, sign}
 use Rattle.graph_notation.specs.Forms.{SpellsGraph}
 use Rattle.graph_notation.specs.Notation.{ReadAs, IsNotation}
-use Rattle.graph_notation.specs.Machine.{State, start, gives, wants_value, is_whole, run, step, and_then, graph_of, reference_step}
+use Rattle.graph_notation.specs.Machine.{State, start, gives, wants_value, is_whole, run, step, graph_of, reference_step}
 use Rattle.graph_notation.specs.Progress.{SoFar, TokenAt, Untaken, StoppedAt}
 use Rattle.graph_notation.specs.Progress.Untaken.{unread, bad, unknown, too_many, no_memory}
-use Rattle.graph_notation.specs.Refusal.{GoOn, GoOnWithin, IsMisplaced, IsForward, Refused, RefusedAt, EndsEarly, Refusal}
+use Rattle.graph_notation.specs.Refusal.{GoOn, GoOnWithin, Refused, RefusedAt, EndsEarly, Refusal}
 use Rattle.graph_notation.specs.Refusal.Refused.{misplaced, unknown as refused_unknown, too_many as refused_many}
 use Rattle.graph_notation.proofs.Nexts.{IsForm, AllForms}
 use Rattle.graph_notation.proofs.Exact.{spelled_where_read}
 use Rattle.graph_notation.proofs.Advance.{run_more}
 use Rattle.graph_notation.proofs.Tokens.{one_token, some_token, one_cut}
-use Rattle.graph_notation.proofs.Living.{Sane, sane_start, sane_run}
+use Rattle.graph_notation.proofs.Living.{sane_start, sane_run}
 use Rattle.graph_notation.proofs.Refusing.{lives, goes_on, dead_within, dead_always, unfinished, run_more_room, with_room, forward_step, err_is}
 use Rattle.graph_notation.proofs.Distinct.{one_element, one_reading}
 

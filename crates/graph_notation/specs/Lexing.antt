@@ -1,5 +1,5 @@
 -- How long the token at the front of a text is.
-use Rattle.std.specs.Prelude.{ℕ, suc, Bool, true, false, not, ◌&&◌, nat_eq, List, [], ◌∷◌, if◌then◌else◌}
+use Rattle.std.specs.Prelude.{ℕ, suc, Bool, false, not, ◌&&◌, nat_eq, List, [], ◌∷◌, if◌then◌else◌}
 use Rattle.graph_notation.specs.Tokens.{is_word_byte}
 
 -- how many bytes of a word stand at the front

@@ -1,7 +1,6 @@
 -- How far a text has been read.
-use Rattle.std.specs.Prelude.{◌≡◌, ℕ, ◌+◌, ◌<◌, ◌≤◌, List, [], ◌∷◌, ◌++◌, length, drop, Result, Ok, Err}
+use Rattle.std.specs.Prelude.{◌≡◌, ℕ, ◌<◌, ◌≤◌, List, ◌++◌, length, drop, Result, Ok, Err}
 use Rattle.graph_notation.specs.declared.element.Element.{Element}
-use Rattle.graph_notation.specs.declared.frame.Cause.{Cause}
 use Rattle.graph_notation.specs.declared.frame.Cause.TheVariants.{Bad, Unknown, TooMany}
 use Rattle.graph_notation.specs.declared.stop.Stop.{Stop}
 use Rattle.graph_notation.specs.declared.stop.Stop.TheVariants.{Refused, NoMemory}

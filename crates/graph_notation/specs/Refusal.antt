@@ -9,7 +9,7 @@ use Rattle.graph_notation.specs.declared.fault.NotationFault.TheVariants.{BadNot
 use Rattle.graph_notation.specs.Tokens.{Token, IsToken, Cut}
 use Rattle.graph_notation.specs.Elements.{Reads}
 use Rattle.graph_notation.specs.Forms.{SpellsGraph}
-use Rattle.graph_notation.specs.Notation.{ReadAs, IsNotation}
+use Rattle.graph_notation.specs.Notation.{ReadAs}
 
 -- elements at the front of those of some graph
 pub record GoOn (before : List Element) : Type 0 where

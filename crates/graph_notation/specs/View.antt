@@ -1,5 +1,5 @@
 -- The reader's fields as a state, and what its calls did.
-use Rattle.std.specs.Prelude.{◌≡◌, ℕ, ◌<◌, ◌≤◌, ◌^◌, List, map, reverse, length, Bool, true, false, Result, Ok, Err, ⊤}
+use Rattle.std.specs.Prelude.{◌≡◌, ℕ, ◌<◌, ◌≤◌, ◌^◌, map, reverse, length, Result, Ok, Err, ⊤}
 use Rattle.graph_notation.specs.declared.frame.Cause.{Cause}
 use Rattle.graph_notation.specs.declared.frame.Place.{Place}
 use Rattle.graph_notation.specs.declared.frame.Place.TheVariants as places

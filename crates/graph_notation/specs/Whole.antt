@@ -1,5 +1,5 @@
 -- What holds of the nodes that a notation has.
-use Rattle.std.specs.Prelude.{◌≡◌, ℕ, ◌+◌, ◌<◌, List, [], ◌∷◌, length}
+use Rattle.std.specs.Prelude.{◌≡◌, ℕ, ◌+◌, List, [], ◌∷◌, length}
 use Rattle.hessian_graph.specs.declared.value.Value.{Value}
 use Rattle.hessian_graph.specs.Shape.{Kind, ListKind, MapKind, ObjectKind, NodeShape}
 use Rattle.hessian_graph.specs.Work.{NamesBelow}

@@ -7,6 +7,7 @@
 mod building;
 mod contents;
 mod element;
+mod entries;
 mod fault;
 mod frame;
 pub mod laws;

@@ -1,17 +1,21 @@
 //! The one token that is written for an element.
 
-ghost use Rattle.std.specs.Prelude.{◌≡◌, ◌+◌, ◌<◌, ◌≤◌, ◌∷◌, ◌++◌, [], ◌-◌, OnOk, IfOk, decimal, length, take, drop, get_or, true};
+ghost use Rattle.std.specs.Prelude.{◌≡◌, ◌+◌, ◌<◌, ◌≤◌, ◌∷◌, ◌++◌, [], ◌-◌, ◌^◌, All, FitsSigned, OnOk, IfOk, decimal, length, take, drop, get_or, true};
 ghost use Rattle.std.specs.Fmt.{signed_decimal};
 ghost use Rattle.std.specs.List.{flat_map};
-ghost use Rattle.graph_notation.specs.Elements.{mark_byte, hex_digit, hex_pair, short_hex, is_control, escaped, quoted, word_of, printed};
+ghost use Rattle.std.specs.Int.{w32, w64};
+ghost use Rattle.std.specs.Str.{IsUtf8};
+ghost use Rattle.graph_notation.specs.Notation.{IsSoundElement};
+ghost use Rattle.graph_notation.specs.Pressing.{element_of};
+ghost use Rattle.graph_notation.specs.Elements.{mark_byte, hex_digit, hex_pair, short_hex, is_control, escaped, quoted, word_of};
 
-use crate::element::{Element, Mark};
+use crate::element::Mark;
 use hessian_graph::Value;
 use itoa::Buffer;
 use std::alloc::AllocError;
 
 /// The byte of a mark.
-fn byte_of(mark: Mark) -> u8
+pub fn byte_of(mark: Mark) -> u8
     ensures { result ≡ mark_byte mark }
 {
     match mark {
@@ -29,7 +33,8 @@ fn byte_of(mark: Mark) -> u8
 
 /// Appends a number of 32 bits.
 fn write_int(out: &mut Vec<u8>, number: i32) -> Result<(), AllocError>
-    ensures { OnOk result (out.new.items ≡ out.old.items ++ signed_decimal number) }
+    ensures fits { FitsSigned w32 number }
+    ensures written { OnOk result (out.new.items ≡ out.old.items ++ signed_decimal number) }
 {
     let mut buffer = Buffer::new();
     out.extend_from_slice(buffer.format(number).as_bytes())?;
@@ -38,7 +43,8 @@ fn write_int(out: &mut Vec<u8>, number: i32) -> Result<(), AllocError>
 
 /// Appends a number of 64 bits.
 fn write_long(out: &mut Vec<u8>, number: i64) -> Result<(), AllocError>
-    ensures { OnOk result (out.new.items ≡ out.old.items ++ signed_decimal number) }
+    ensures fits { FitsSigned w64 number }
+    ensures written { OnOk result (out.new.items ≡ out.old.items ++ signed_decimal number) }
 {
     let mut buffer = Buffer::new();
     out.extend_from_slice(buffer.format(number).as_bytes())?;
@@ -47,12 +53,20 @@ fn write_long(out: &mut Vec<u8>, number: i64) -> Result<(), AllocError>
 
 /// Appends a reference to a node.
 fn write_reference(out: &mut Vec<u8>, number: u32) -> Result<(), AllocError>
-    ensures { OnOk result (out.new.items ≡ out.old.items ++ 0x23 ∷ decimal number) }
+    ensures fits { number < 2 ^ 32 }
+    ensures written { OnOk result (out.new.items ≡ out.old.items ++ 0x23 ∷ decimal number) }
 {
     let mut buffer = Buffer::new();
     out.push(b'#')?;
     out.extend_from_slice(buffer.format(number).as_bytes())?;
     Ok(())
+}
+
+/// Bytes are below 256.
+fn see(bytes: &[u8])
+    ensures { All (λ b. b < 256) bytes.now }
+{
+    let _length = bytes.len();
 }
 
 /// A hexadecimal digit.
@@ -144,8 +158,9 @@ fn write_content(out: &mut Vec<u8>, text: &[u8]) -> Result<(), AllocError>
 }
 
 /// Appends a text.
-fn write_text(out: &mut Vec<u8>, text: &str) -> Result<(), AllocError>
-    ensures { OnOk result (out.new.items ≡ out.old.items ++ quoted text.now) }
+pub fn write_text(out: &mut Vec<u8>, text: &str) -> Result<(), AllocError>
+    ensures fits { IsUtf8 text.now }
+    ensures written { OnOk result (out.new.items ≡ out.old.items ++ quoted text.now) }
 {
     out.push(b'"')?;
     write_content(out, text.as_bytes())?;
@@ -153,9 +168,10 @@ fn write_text(out: &mut Vec<u8>, text: &str) -> Result<(), AllocError>
     Ok(())
 }
 
-/// Appends a value that is no node.
-fn write_value(out: &mut Vec<u8>, value: &Value) -> Result<(), AllocError>
-    ensures { OnOk result (out.new.items ≡ out.old.items ++ word_of value.now) }
+/// Appends a value that is no node, or the number of a node that has begun.
+pub fn write_value(out: &mut Vec<u8>, value: &Value) -> Result<(), AllocError>
+    ensures sound { OnOk result (IsSoundElement (element_of value.now)) }
+    ensures written { OnOk result (out.new.items ≡ out.old.items ++ word_of value.now) }
 {
     match value {
         Value::Null => {
@@ -181,25 +197,12 @@ fn write_value(out: &mut Vec<u8>, value: &Value) -> Result<(), AllocError>
             write_long(out, *number)
         }
         Value::Bytes(bytes) => {
+            let bytes = bytes.as_slice();
+            see(bytes);
             out.push(b'x')?;
-            write_pairs(out, bytes.as_slice())
+            write_pairs(out, bytes)
         }
         Value::Text(text) => write_text(out, text.as_str()),
         Value::Node(number) => write_reference(out, *number),
-    }
-}
-
-/// Appends the token of an element.
-pub fn write(out: &mut Vec<u8>, element: &Element) -> Result<(), AllocError>
-    ensures { OnOk result (out.new.items ≡ out.old.items ++ printed element.now) }
-{
-    match element {
-        Element::Plain(value) => write_value(out, value),
-        Element::Words(text) => write_text(out, text.as_str()),
-        Element::Reference(number) => write_reference(out, *number),
-        Element::Sign(mark) => {
-            out.push(byte_of(*mark))?;
-            Ok(())
-        }
     }
 }

@@ -1,4 +1,4 @@
-use Rattle.std.proofs.Common.{◌≡◌, sym, subst, length, map, ap, ◌∙◌}
+use Rattle.std.proofs.Common.{subst, map, ap, ◌∙◌}
 use Rattle.std.proofs.lemmas.List.{length-map}
 use Rattle.hessian_graph.specs.Shape.{Shape, shape_of}
 use Rattle.graph_notation.specs.Machine.{graph_of, shown}

@@ -1,4 +1,4 @@
-use Rattle.std.proofs.Common.{◌<◌, ◌^◌, arith}
+use Rattle.std.proofs.Common.{◌<◌, arith}
 use Rattle.graph_notation.proofs.Digits.{room}
 use Rattle.graph_notation.proofs.contents.more.Goals as goal
 

@@ -1,4 +1,4 @@
-use Rattle.std.proofs.Common.{◌≡◌, ◌+◌, drop, arith}
+use Rattle.std.proofs.Common.{◌+◌, drop, arith}
 use Rattle.graph_notation.specs.Unquoting.{unhexed}
 use Rattle.graph_notation.proofs.Digits.{pair_on, odd_end}
 use Rattle.graph_notation.proofs.contents.unhex.Goals as goal

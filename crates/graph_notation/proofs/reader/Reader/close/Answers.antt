@@ -1,4 +1,3 @@
-use Rattle.std.proofs.Common.{◌≡◌, ◌++◌, ◌∷◌, [], map, reverse, Ok}
 use Rattle.graph_notation.proofs.Closing.{closed_now}
 use Rattle.graph_notation.proofs.reader.Reader.close.Goals as goal
 
