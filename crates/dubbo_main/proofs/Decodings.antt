@@ -3,6 +3,7 @@ use Rattle.std.proofs.Common.{◌≡◌, ◌≢◌, ℕ, List, [], ◌∷◌, �
 use Rattle.std.specs.Prelude.{IfOk}
 use Rattle.hessian_graph.specs.Shape.{Shape}
 use Rattle.hessian_reader.specs.Leaves.{IsDenoted}
+use Rattle.hessian_reader.specs.Refusing.{IsRefusedBy}
 use Rattle.hessian_reader.specs.declared.fault.HessianFault.{HessianFault}
 use Rattle.hessian_reader.specs.declared.fault.HessianFault.TheVariants.{OutOfMemory}
 use Rattle.graph_notation.specs.Notation.{PrintsForm}
@@ -30,10 +31,10 @@ answers_notation roots input g (Err e) denoted many zero printed = tt
 
 -- the answer with the fault of the bytes
 pub answers_fault : {E : Type 0} (roots : ℕ) (input : List ℕ) (fault : HessianFault) (answer : Result Answer E)
-    → (fault ≢ OutOfMemory → (g : Shape) → IsDenoted input g → length g.roots ≡ roots → ⊥)
+    → (fault ≢ OutOfMemory → (g : Shape) → IsDenoted input g → length g.roots ≡ roots → ⊥) → (fault ≢ OutOfMemory → IsRefusedBy roots input fault)
     → IfOk answer (λ a. fault ≢ OutOfMemory) → IfOk answer (λ a. status_of a ≡ 8) → IfOk answer (λ a. text_of a ≡ damage_line (hessian_text fault))
     → IfOk answer (λ a. DecodeAnswers roots input (status_of a) (text_of a))
-answers_fault roots input fault (Ok a) refused cause eight line =
+answers_fault roots input fault (Ok a) none why cause eight line =
     subst (λ status. DecodeAnswers roots input status (text_of a)) (sym eight)
-    (subst (λ all. DecodeAnswers roots input 8 all) (sym line) (damaged fault (record { none = refused cause; cause = cause })))
-answers_fault roots input fault (Err e) refused cause eight line = tt
+    (subst (λ all. DecodeAnswers roots input 8 all) (sym line) (damaged fault (record { none = none cause; refused = why cause })))
+answers_fault roots input fault (Err e) none why cause eight line = tt

@@ -2,8 +2,8 @@
 use Rattle.std.specs.Prelude.{◌≡◌, ◌≢◌, ℕ, ◌++◌, List, [], ◌∷◌, length}
 use Rattle.hessian_graph.specs.Shape.{Shape}
 use Rattle.hessian_reader.specs.Leaves.{IsDenoted}
+use Rattle.hessian_reader.specs.Refusing.{IsRefusedBy}
 use Rattle.hessian_reader.specs.declared.fault.HessianFault.{HessianFault}
-use Rattle.hessian_reader.specs.declared.fault.HessianFault.TheVariants.{OutOfMemory}
 use Rattle.graph_notation.specs.Notation.{PrintsForm}
 use Rattle.dubbo_main.specs.FaultTexts.{damage_line, hessian_text}
 
@@ -14,10 +14,11 @@ pub record IsDecoded (roots : ℕ) (input notation : List ℕ) : Type 0 where
   pub roots_are : length graph.roots ≡ roots
   pub printed : PrintsForm graph notation
 
--- the input denotes no graph with so many roots; the fault is none of memory
+-- the input denotes no graph with so many roots, and the fault tells why: its kind, its place and its number are those
+-- of the refusal
 pub record DenotesNone (roots : ℕ) (input : List ℕ) (fault : HessianFault) : Type 0 where
   pub none : (graph : Shape) → IsDenoted input graph → length graph.roots ≢ roots
-  pub cause : fault ≢ OutOfMemory
+  pub refused : IsRefusedBy roots input fault
 
 -- what `decode` answers to its whole input
 pub data DecodeAnswers (roots : ℕ) (input : List ℕ) : ℕ → List ℕ → Type 0 where

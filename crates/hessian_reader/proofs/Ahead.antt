@@ -1,12 +1,12 @@
 -- What a state still lacks of a graph, in its place.
-use Rattle.std.proofs.Common.{◌≡◌, ℕ, zero, suc, ◌+◌, ◌-◌, ◌<◌, ◌≤◌, true, false, List, [], ◌∷◌, ◌++◌, length, get_or, refl, ap, sym, ◌∙◌, subst, append_assoc, arith, inl, inr, ◌⊎◌}
+use Rattle.std.proofs.Common.{◌≡◌, ℕ, suc, ◌<◌, List, [], ◌∷◌, ◌++◌, length, refl, ap, sym, ◌∙◌, subst, arith, inl, inr, ◌⊎◌}
 use Rattle.std.specs.Prelude.{Option, Some, None}
 use Rattle.std.proofs.lemmas.Bool.{cases_eq}
 use Rattle.std.proofs.lemmas.List.{get_or_append_left}
 use Rattle.hessian_graph.specs.declared.value.Value.{Value}
 use Rattle.hessian_graph.specs.declared.value.Value.TheVariants.{Node}
 use Rattle.hessian_graph.specs.declared.node.Class.{Class}
-use Rattle.hessian_graph.specs.Shape.{Text, Kind, ListKind, MapKind, ObjectKind, Shape, values_at, kind_at, type_of, no_class}
+use Rattle.hessian_graph.specs.Shape.{Text, ListKind, MapKind, ObjectKind, Shape, values_at, kind_at, type_of, no_class}
 use Rattle.hessian_graph.specs.Tables.{NumberBelow}
 use Rattle.hessian_graph.specs.Reading.{Tables, one_more}
 use Rattle.hessian_graph.specs.Spells.{Begins}
@@ -19,12 +19,10 @@ use Rattle.hessian_reader.specs.declared.store.Lacks.{Lacks}
 use Rattle.hessian_reader.specs.declared.store.OpenNode.{OpenNode}
 use Rattle.hessian_reader.specs.Names.{Names, and_type, and_class}
 use Rattle.hessian_reader.specs.States.{Built, State, Place, AtValue, AtDefined, AtReference, AtType, AtLength, AtClass, AtName, AtCount, AtField, ToEnd, Count, Key, Mate, sort_at, with_value, with_open, with_node, begins_node, takes_value, learns_type, learns_class, kind_named}
+use Rattle.hessian_reader.specs.Slots.{tables_of}
 use Rattle.hessian_reader.proofs.Lacking.{Even, AreOpen, behind, to_come, Lacking, Lacks', give}
 use Rattle.hessian_reader.proofs.Opening.{LacksAll, begin}
 use Rattle.hessian_reader.proofs.Sound.{SortFits, Sound, value_nodes, value_sort, value_open, node_nodes, sort_new, sort_old}
-
-abbrev pub tables_of : State → Tables
-tables_of s = record { begun = length s.built.nodes; types = s.names.types; classes = s.names.classes }
 
 abbrev pub line_form : Form → LineForm
 line_form forms.Open = Open

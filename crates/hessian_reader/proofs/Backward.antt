@@ -1,15 +1,15 @@
 -- What is taken a row of the grammar allows.
-use Rattle.std.proofs.Common.{◌≡◌, ℕ, zero, suc, ◌+◌, ◌-◌, ◌<◌, ◌≤◌, true, false, List, [], ◌∷◌, ◌++◌, length, get_or, refl, ap, sym, ◌∙◌, subst, append_assoc, arith, inl, inr, add-zero}
-use Rattle.std.specs.Prelude.{nat_eq, nat_lt, if◌then◌else◌, Option, Some, None, Result, Ok, Err, ℤ, pos, negsuc}
+use Rattle.std.proofs.Common.{◌≡◌, ℕ, zero, suc, ◌-◌, ◌<◌, ◌≤◌, false, List, [], ◌∷◌, ◌++◌, length, get_or, refl, ap, sym, ◌∙◌, subst, append_assoc, arith, inl, inr, add-zero}
+use Rattle.std.specs.Prelude.{nat_eq, Option, Some, None, Ok, ℤ, pos}
 use Rattle.std.proofs.lemmas.Bool.{ne_eqb, cond-false}
 use Rattle.std.proofs.lemmas.List.{append-nil, get_or-append-add}
 use Rattle.hessian_graph.specs.declared.value.Value.{Value}
 use Rattle.hessian_graph.specs.declared.value.Value.TheVariants as values
 use Rattle.hessian_graph.specs.declared.node.Class.{Class}
-use Rattle.hessian_graph.specs.Shape.{Text, Kind, ListKind, MapKind, ObjectKind, Shape, values_at, kind_at, type_of, no_class}
+use Rattle.hessian_graph.specs.Shape.{Text, ListKind, Shape, values_at, type_of}
 use Rattle.hessian_graph.specs.Reading.{Tables, IsCode, one_more}
-use Rattle.hessian_graph.specs.Spells.{Begins, BeginsObject}
-use Rattle.hessian_graph.specs.Line.{Form as LineForm, Open, Long, Short, Pairs, Symbol, ValueOf, End, Reference, TypeFor, LengthFor, ClassFor, NameOf, CountOf, FieldOf, values_then, fields_then, defined, IsNext, typed_kind, behind_type, begun_by, TypedCode, Row}
+use Rattle.hessian_graph.specs.Spells.{Begins}
+use Rattle.hessian_graph.specs.Line.{Open, Long, Pairs, Symbol, ValueOf, End, Reference, TypeFor, LengthFor, ClassFor, NameOf, CountOf, FieldOf, values_then, fields_then, defined, IsNext, typed_kind, behind_type, begun_by, TypedCode, Row}
 use Rattle.hessian_graph.specs.Line.TypedCode.{open_list as c_open_list, long_list as c_long_list, short_list as c_short_list, map as c_map}
 use Rattle.hessian_graph.specs.Line.Row.{scalar as r_scalar, text as r_text, binary as r_binary, end as r_end, refer as r_refer, reference as r_reference, define as r_define, class_name as r_class_name, field_count as r_field_count, field_name as r_field_name, open_list as r_open_list, long_list as r_long_list, short_list as r_short_list, list_length as r_list_length, typed as r_typed, type_name as r_type_name, type_number as r_type_number, open_map as r_open_map, long_object as r_long_object, class_number as r_class_number, short_object as r_short_object}
 use Rattle.hessian_text.specs.Spelling.{TextSpelling}
@@ -24,17 +24,18 @@ use Rattle.hessian_reader.specs.declared.store.Sort.{Sort}
 use Rattle.hessian_reader.specs.declared.store.Sort.TheVariants as sorts
 use Rattle.hessian_reader.specs.declared.store.Lacks.{Lacks}
 use Rattle.hessian_reader.specs.declared.stop.Objection.TheVariants.{NoNode, NoType, NoClass, NoLength}
-use Rattle.hessian_reader.specs.Leaves.{hessian, scalar_bytes, node_limit}
+use Rattle.hessian_reader.specs.Leaves.{hessian, scalar_bytes}
 use Rattle.hessian_reader.specs.Elements.{HeadCode, IsElement}
 use Rattle.hessian_reader.specs.Elements.HeadCode.{refer as h_refer, short_list as h_short_list, open_list as h_open_list, long_list as h_long_list, open_typed_list as h_open_typed_list, long_typed_list as h_long_typed_list, short_typed_list as h_short_typed_list, typed_map as h_typed_map, open_map as h_open_map, define as h_define, short_object as h_short_object, long_object as h_long_object, end as h_end}
 use Rattle.hessian_reader.specs.Elements.IsElement.{scalar as e_scalar, text as e_text, binary as e_binary, code as e_code, number as e_number, words as e_words}
-use Rattle.hessian_reader.specs.States.{Built, State, Place, AtValue, AtDefined, AtReference, AtType, AtLength, AtClass, AtName, AtCount, AtField, ToEnd, Count, Key, Mate, sort_at, with_value, with_open, with_node, begins_node, takes_value, moves_to, closes, begins_object, field_count, learns_type, learns_class, awaits_fields, lacks_none, want_at, is_done, kind_named}
-use Rattle.hessian_reader.specs.Steps.{Outcome, at_value, end_step, behind_type as goes_behind, node_step, header_step, class_step, head_step, number_step, words_step, take_element}
-use Rattle.hessian_reader.proofs.Lacking.{Even, behind, Lacking, Lacks'}
+use Rattle.hessian_reader.specs.States.{Built, State, Place, AtValue, AtDefined, AtReference, AtType, AtLength, AtClass, AtName, AtCount, AtField, ToEnd, Count, Key, with_value, with_open, with_node, begins_node, takes_value, moves_to, closes, begins_object, field_count, learns_type, learns_class, awaits_fields, lacks_none, want_at, is_done, kind_named}
+use Rattle.hessian_reader.specs.Steps.{end_step, behind_type as goes_behind, class_step, head_step, number_step, words_step, take_element}
+use Rattle.hessian_reader.proofs.Lacking.{behind, Lacking, Lacks'}
 use Rattle.hessian_reader.proofs.Lacked.{give_back}
 use Rattle.hessian_reader.proofs.Opening.{MayBegin, LacksAll, begin_back, end_back}
 use Rattle.hessian_reader.proofs.Sound.{PlaceFits, Sound, sound_typed, value_nodes, value_sort, value_open, node_nodes, sort_new, sort_old}
-use Rattle.hessian_reader.proofs.Ahead.{tables_of, line_form, FormFits, Ahead, KindsAre, Has, TakesValue, value_tables, begins_tables, kinds_untyped, kinds_unclassed}
+use Rattle.hessian_reader.specs.Slots.{tables_of}
+use Rattle.hessian_reader.proofs.Ahead.{line_form, FormFits, Ahead, KindsAre, Has, TakesValue, value_tables, begins_tables, kinds_untyped, kinds_unclassed}
 use Rattle.hessian_reader.proofs.Ahead.Ahead.{value as a_value, defined as a_defined, reference as a_reference, type as a_type, len as a_len, class as a_class, class_name as a_class_name, field_count as a_field_count, fields as a_fields}
 use Rattle.hessian_reader.proofs.Outcomes.{ok_is, took_value, ended_there, had_room, was_below, was_natural, some_lacking}
 

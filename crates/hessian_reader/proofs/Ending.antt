@@ -1,20 +1,17 @@
 -- Nothing is lacking exactly where a reading is done.
-use Rattle.std.proofs.Common.{◌≡◌, ℕ, suc, ◌<◌, ◌≤◌, Bool, true, false, List, [], ◌∷◌, ◌++◌, length, get_or, refl, ap, sym, ◌∙◌, subst, arith}
+use Rattle.std.proofs.Common.{◌≡◌, ℕ, suc, ◌<◌, true, false, List, [], ◌∷◌, length, get_or, refl, ap, sym, ◌∙◌, subst, arith}
 use Rattle.std.specs.Prelude.{nat_eq, map, ◌&&◌}
 use Rattle.std.proofs.lemmas.Bool.{eqb-true, ne_eqb, and_parts}
 use Rattle.std.proofs.lemmas.List.{append-nil, same_lists, get_or_default, get_or-map, length-map}
 use Rattle.hessian_graph.specs.declared.value.Value.{Value}
-use Rattle.hessian_graph.specs.declared.value.Value.TheVariants as values
-use Rattle.hessian_graph.specs.Shape.{Kind, NodeShape, Shape, values_at, kind_at, no_node}
-use Rattle.hessian_graph.specs.Reading.{Tables}
+use Rattle.hessian_graph.specs.Shape.{Kind, NodeShape, Shape, values_at, no_node}
 use Rattle.hessian_graph.specs.Line.{Symbol, ValueOf, End, Reference, TypeFor, LengthFor, ClassFor, NameOf, CountOf, FieldOf, values_then}
-use Rattle.hessian_reader.specs.declared.store.Begun.{Begun}
 use Rattle.hessian_reader.specs.declared.store.Lacks.{Lacks}
 use Rattle.hessian_reader.specs.declared.store.OpenNode.{OpenNode}
-use Rattle.hessian_reader.specs.States.{Built, State, Place, AtValue, AtDefined, AtReference, AtType, AtLength, AtClass, AtName, AtCount, AtField, ToEnd, Count, Key, Mate, no_begun, values_so_far, sort_at, lacks_none, is_at_value, is_done, kind_named, node_named, graph_of}
+use Rattle.hessian_reader.specs.States.{Built, State, Place, AtValue, AtDefined, AtReference, AtType, AtLength, AtClass, AtName, AtCount, AtField, ToEnd, Count, Key, Mate, no_begun, values_so_far, lacks_none, is_at_value, is_done, node_named, graph_of}
 use Rattle.hessian_reader.proofs.Lacking.{LacksFit, AllFit, behind, to_come, Lacking, Lacks', plain_nodes, roots_lack}
-use Rattle.hessian_reader.proofs.Sound.{Sound}
-use Rattle.hessian_reader.proofs.Ahead.{tables_of, Ahead, Has, KindsAre, expects}
+use Rattle.hessian_reader.specs.Slots.{tables_of}
+use Rattle.hessian_reader.proofs.Ahead.{Ahead, Has, KindsAre, expects}
 use Rattle.hessian_reader.proofs.Ahead.Ahead.{value}
 
 -- nothing to come

@@ -1,13 +1,11 @@
 -- A reader that takes a piece, element by element.
-use Rattle.std.proofs.Common.{◌≡◌, ◌≢◌, ℕ, zero, suc, ◌+◌, ◌-◌, ◌<◌, ◌≤◌, Bool, true, false, List, [], ◌∷◌, ◌++◌, length, take, drop, refl, ap, sym, ◌∙◌, subst, append_assoc, arith, length-append}
+use Rattle.std.proofs.Common.{◌≡◌, ◌≢◌, ℕ, zero, suc, ◌+◌, ◌-◌, ◌<◌, ◌≤◌, Bool, true, false, List, [], ◌++◌, length, take, drop, refl, ap, sym, ◌∙◌, subst, append_assoc, arith, length-append}
 use Rattle.std.proofs.Math.Seq.{take-add}
 use Rattle.std.proofs.lemmas.List.{append-nil, take-append-drop, take_at, take_all, length-take-le}
-use Rattle.std.specs.Prelude.{Option, Some, None, Result, Ok, Err}
+use Rattle.std.specs.Prelude.{Option, Some, None, Result}
 use Rattle.hessian_text.specs.Spelling.{AreBytes}
 use Rattle.hessian_text.proofs.Advancing.{rest_is}
-use Rattle.hessian_reader.specs.declared.element.Want.{Want}
 use Rattle.hessian_reader.specs.declared.fault.HessianFault.{HessianFault}
-use Rattle.hessian_reader.specs.declared.lexer.Inside.{Inside}
 use Rattle.hessian_reader.specs.declared.reader.Fed.TheVariants as told
 use Rattle.hessian_reader.specs.declared.reader.GraphReader.{GraphReader}
 use Rattle.hessian_reader.specs.declared.work.Work.{Work}
@@ -16,10 +14,11 @@ use Rattle.hessian_reader.specs.Lexing.{Holds}
 use Rattle.hessian_reader.specs.States.{State, start, want_at, is_done, graph_of}
 use Rattle.hessian_reader.specs.Steps.{Leads}
 use Rattle.hessian_reader.specs.Views.{state_of}
-use Rattle.hessian_reader.specs.Reading.{EndsAt, NeverEnds, Tells, Follows, IsStuck, TakesOne, GoesOn, Nexts, HasRead}
+use Rattle.hessian_reader.specs.Reading.{EndsAt, NeverEnds, Tells, Follows, IsStuck, StopsIn, TakesOne, GoesOn, Nexts, HasRead}
+use Rattle.hessian_reader.specs.Refusing.{IsStoppedBy}
 use Rattle.hessian_reader.proofs.Elements.{holds_begins}
 use Rattle.hessian_reader.proofs.OneWay.{bytes_front, bytes_rest, bytes_both, leads_more, never_ends, begun_blocked, stuck_never_ends}
-use Rattle.hessian_reader.proofs.Running.{IsWhole, denotes}
+use Rattle.hessian_reader.proofs.Running.{denotes}
 
 -- the reader has taken this front of a piece; what is behind an element's end has just begun
 pub record Stands (r : GraphReader) (roots : ℕ) (fed front : List ℕ) : Type 0 where
@@ -111,6 +110,17 @@ stuck_behind old roots fed piece n st small d stuck =
     let joined : fed ++ piece ≡ f.before ++ (f.came ++ drop n piece) = split fed piece n ∙ ap (λ x. x ++ drop n piece) (all_are old roots (fed ++ take n piece) f d) ∙ append_assoc f.before f.came (drop n piece) in
     stuck_never_ends roots f.before f.came (drop n piece) (fed ++ piece) (state_of old.work) small joined f.leads d stuck
 
+-- and stops where the fault says
+pub stops_behind : (old : GraphReader) (roots : ℕ) (fed piece : List ℕ) (n at : ℕ) (fault : HessianFault) (st : Stands old roots fed (take n piece)) → n ≤ length piece → at ≡ length fed + n → AreBytes fed → AreBytes piece → is_done (state_of old.work) ≡ false → StopsIn old at (drop n piece) fault → IsStoppedBy roots (fed ++ piece) fault
+stops_behind old roots fed piece n at fault st within place small small' d stops =
+    let f = st.follows in
+    let front : fed ++ take n piece ≡ f.before ++ f.came = all_are old roots (fed ++ take n piece) f d in
+    let joined : fed ++ piece ≡ f.before ++ (f.came ++ drop n piece) = split fed piece n ∙ ap (λ x. x ++ drop n piece) front ∙ append_assoc f.before f.came (drop n piece) in
+    let len1 : length fed + length (take n piece) ≡ length f.before + length f.came = sym (length-append fed (take n piece)) ∙ ap length front ∙ length-append f.before f.came in
+    let len2 : length (take n piece) ≡ n = length-take-le n piece within in
+    let few = bytes_front (take n piece) (drop n piece) (subst AreBytes (sym (take-append-drop n piece)) small') in
+    subst (λ x. IsStoppedBy roots x fault) (sym joined) (stops roots f.before f.came (came_bytes old roots (fed ++ take n piece) f (bytes_both fed (take n piece) small few)) f.leads d f.from (omega (arith, place, len1, len2)) f.wants f.holds)
+
 -- the last root has ended
 
 pub done_follows : (r : GraphReader) (roots : ℕ) (fed piece : List ℕ) (n : ℕ) → Stands r roots fed (take n piece) → is_done (state_of r.work) ≡ true → Follows r roots (fed ++ piece)
@@ -195,4 +205,5 @@ read_on r roots fed piece small small' count none f =
       bytes = bytes_both fed piece small small';
       follows = λ e. recounted r (r.fed + length piece) roots (fed ++ piece) f;
       refused = λ fault e some. let bad : None ≡ Some fault = sym none ∙ e in absurd cc;
+      stopped = λ fault e some. let bad : None ≡ Some fault = sym none ∙ e in absurd cc;
     }

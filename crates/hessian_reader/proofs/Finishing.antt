@@ -1,12 +1,11 @@
 -- The nodes of a graph, made of those that have begun.
-use Rattle.std.proofs.Common.{◌≡◌, ℕ, suc, zero, ◌+◌, ◌<◌, List, [], ◌∷◌, ◌++◌, length, get_or, arith, refl, sym, ap, ◌∙◌, subst, append_assoc, append-nil, length-append, inl, inr}
+use Rattle.std.proofs.Common.{◌≡◌, ℕ, suc, ◌+◌, ◌<◌, List, [], ◌∷◌, ◌++◌, length, get_or, arith, refl, sym, ap, ◌∙◌, subst, append_assoc, length-append, inl, inr}
 use Rattle.std.specs.Prelude.{map}
 use Rattle.std.proofs.lemmas.Bool.{cases_lt}
 use Rattle.std.proofs.lemmas.List.{get_or_append_left, get_or_push}
 use Rattle.hessian_graph.specs.declared.value.Value.{Value}
 use Rattle.hessian_graph.specs.declared.value.Pair.{Pair}
 use Rattle.hessian_graph.specs.declared.node.Node.{Node}
-use Rattle.hessian_graph.specs.declared.node.Node.TheVariants as nodes
 use Rattle.hessian_graph.specs.declared.node.Class.{Class}
 use Rattle.hessian_graph.specs.Shape.{Text, MapKind, NodeShape, type_of, alternately, no_vertex, node_shape, Shape, shape_of}
 use Rattle.hessian_graph.specs.Spells.{ArePairs}
@@ -16,7 +15,7 @@ use Rattle.hessian_reader.specs.declared.store.Sort.{Sort}
 use Rattle.hessian_reader.specs.declared.store.Sort.TheVariants as sorts
 use Rattle.hessian_reader.specs.declared.store.Begun.{Begun}
 use Rattle.hessian_reader.specs.Names.{Names}
-use Rattle.hessian_reader.specs.States.{no_begun, sort_at, values_so_far, kind_named, node_named, State, graph_of}
+use Rattle.hessian_reader.specs.States.{no_begun, sort_at, values_so_far, node_named, State, graph_of}
 use Rattle.hessian_reader.specs.Finish.{IsNodeOf, AreNodesOf, IsWhole, MapsAreWhole}
 
 -- one pair more is a key and a value more

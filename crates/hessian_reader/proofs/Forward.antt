@@ -1,15 +1,14 @@
 -- What a row of the grammar allows is taken.
-use Rattle.std.proofs.Common.{◌≡◌, ℕ, zero, suc, ◌+◌, ◌-◌, ◌<◌, ◌≤◌, true, false, List, [], ◌∷◌, ◌++◌, length, get_or, refl, ap, sym, ◌∙◌, subst, append_assoc, arith, inl, inr, add-zero}
-use Rattle.std.specs.Prelude.{nat_lt, if◌then◌else◌, Option, Some, None, Result, Ok, Err, ℤ, pos, negsuc}
+use Rattle.std.proofs.Common.{◌≡◌, ℕ, suc, ◌-◌, ◌<◌, ◌≤◌, List, [], ◌∷◌, ◌++◌, length, get_or, refl, ap, sym, ◌∙◌, subst, append_assoc, arith, inl, inr, add-zero}
+use Rattle.std.specs.Prelude.{nat_lt, Option, Some, None, Ok, Err, pos}
 use Rattle.std.proofs.lemmas.Bool.{lt-ltb, ne_eqb, cond-true}
 use Rattle.std.proofs.lemmas.List.{append-nil, get_or-append-add}
 use Rattle.hessian_graph.specs.declared.value.Value.{Value}
 use Rattle.hessian_graph.specs.declared.value.Value.TheVariants as values
 use Rattle.hessian_graph.specs.declared.node.Class.{Class}
-use Rattle.hessian_graph.specs.Shape.{Text, Kind, ListKind, MapKind, ObjectKind, Shape, values_at, kind_at, type_of, no_class}
-use Rattle.hessian_graph.specs.Reading.{Tables, one_more, add_type}
-use Rattle.hessian_graph.specs.Spells.{Begins, BeginsObject}
-use Rattle.hessian_graph.specs.Line.{Form as LineForm, Open, Long, Short, Pairs, Symbol, ValueOf, End, Reference, TypeFor, LengthFor, ClassFor, NameOf, CountOf, FieldOf, values_then, fields_then, defined, IsNext, typed_kind, behind_type, begun_by, TypedCode, Row}
+use Rattle.hessian_graph.specs.Shape.{Text, ListKind, MapKind, ObjectKind, Shape, values_at, kind_at, type_of, no_class}
+use Rattle.hessian_graph.specs.Reading.{Tables, one_more}
+use Rattle.hessian_graph.specs.Line.{Form as LineForm, Symbol, ValueOf, End, Reference, TypeFor, LengthFor, ClassFor, NameOf, CountOf, FieldOf, values_then, fields_then, defined, typed_kind, behind_type, begun_by, TypedCode, Row}
 use Rattle.hessian_graph.specs.Line.TypedCode.{open_list as c_open_list, long_list as c_long_list, short_list as c_short_list, map as c_map}
 use Rattle.hessian_graph.specs.Line.Row.{scalar as r_scalar, text as r_text, binary as r_binary, end as r_end, refer as r_refer, reference as r_reference, define as r_define, class_name as r_class_name, field_count as r_field_count, field_name as r_field_name, open_list as r_open_list, long_list as r_long_list, short_list as r_short_list, list_length as r_list_length, typed as r_typed, type_name as r_type_name, type_number as r_type_number, open_map as r_open_map, long_object as r_long_object, class_number as r_class_number, short_object as r_short_object}
 use Rattle.hessian_reader.specs.declared.element.Form.{Form}
@@ -18,7 +17,6 @@ use Rattle.hessian_reader.specs.declared.element.Head.{Head}
 use Rattle.hessian_reader.specs.declared.element.Head.TheVariants as heads
 use Rattle.hessian_reader.specs.declared.element.Element.{Element}
 use Rattle.hessian_reader.specs.declared.element.Element.TheVariants as elements
-use Rattle.hessian_reader.specs.declared.element.Want.{Want}
 use Rattle.hessian_reader.specs.declared.element.Want.TheVariants as wants
 use Rattle.hessian_reader.specs.declared.store.Sort.{Sort}
 use Rattle.hessian_reader.specs.declared.store.Sort.TheVariants as sorts
@@ -26,17 +24,18 @@ use Rattle.hessian_reader.specs.declared.store.Lacks.{Lacks}
 use Rattle.hessian_reader.specs.declared.stop.Objection.{Objection}
 use Rattle.hessian_reader.specs.declared.stop.Objection.TheVariants.{NoNode, NoType, NoClass, TooMany}
 use Rattle.hessian_reader.specs.Leaves.{hessian, node_limit}
-use Rattle.hessian_reader.specs.Elements.{HeadCode, TakesInt, TakesText, IsElement}
+use Rattle.hessian_reader.specs.Elements.{HeadCode, IsElement}
 use Rattle.hessian_reader.specs.Elements.HeadCode.{refer as h_refer, short_list as h_short_list, open_list as h_open_list, long_list as h_long_list, open_typed_list as h_open_typed_list, long_typed_list as h_long_typed_list, short_typed_list as h_short_typed_list, typed_map as h_typed_map, open_map as h_open_map, define as h_define, short_object as h_short_object, long_object as h_long_object, end as h_end}
 use Rattle.hessian_reader.specs.Elements.TakesInt.{int as t_int, type as t_int_type}
 use Rattle.hessian_reader.specs.Elements.TakesText.{text as t_text, type as t_text_type}
 use Rattle.hessian_reader.specs.Elements.IsElement.{scalar as e_scalar, text as e_text, binary as e_binary, code as e_code, number as e_number, words as e_words}
-use Rattle.hessian_reader.specs.States.{Built, State, Place, AtValue, AtDefined, AtReference, AtType, AtLength, AtClass, AtName, AtCount, AtField, ToEnd, Count, Key, Mate, begins_node, takes_value, moves_to, closes, begins_object, field_count, learns_type, learns_class, awaits_fields, want_at, kind_named}
+use Rattle.hessian_reader.specs.States.{State, Place, AtValue, AtDefined, AtReference, AtType, AtLength, AtClass, AtName, AtCount, AtField, ToEnd, Count, Key, begins_node, takes_value, moves_to, closes, begins_object, field_count, learns_type, learns_class, awaits_fields, want_at, kind_named}
 use Rattle.hessian_reader.specs.Steps.{Outcome, if_room, at_value, may_end, end_step, below, behind_type as goes_behind, node_step, header_step, head_step, number_step, words_step, take_element}
 use Rattle.hessian_reader.proofs.Lacking.{behind, Lacks'}
-use Rattle.hessian_reader.proofs.Opening.{LacksAll, Ends, end}
+use Rattle.hessian_reader.proofs.Opening.{LacksAll, end}
 use Rattle.hessian_reader.proofs.Sound.{Sound, sound_typed}
-use Rattle.hessian_reader.proofs.Ahead.{tables_of, line_form, FormFits, Ahead, KindsAre, Has, TakesValue, expects, value_has, value_tables, begins_has, begins_tables, kinds_typed, kinds_classed}
+use Rattle.hessian_reader.specs.Slots.{tables_of}
+use Rattle.hessian_reader.proofs.Ahead.{line_form, FormFits, Ahead, KindsAre, Has, TakesValue, expects, value_has, value_tables, begins_has, begins_tables, kinds_typed, kinds_classed}
 use Rattle.hessian_reader.proofs.Ahead.Ahead.{value as a_value, defined as a_defined, reference as a_reference, type as a_type, len as a_len, class as a_class, class_name as a_class_name, field_count as a_field_count, fields as a_fields}
 
 pub record Went (g : Shape) (s : State) (element : List ℕ) (ss : List Symbol) (t : Tables) : Type 0 where

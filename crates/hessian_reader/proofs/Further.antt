@@ -1,6 +1,6 @@
 -- A reading that wants more roots takes the same elements.
-use Rattle.std.proofs.Common.{◌≡◌, ℕ, zero, suc, ◌+◌, ◌-◌, ◌<◌, ◌≤◌, Bool, true, false, List, [], ◌∷◌, ◌++◌, length, refl, ap, sym, ◌∙◌, subst, arith, inl, inr}
-use Rattle.std.specs.Prelude.{nat_eq, nat_lt, if◌then◌else◌, ◌&&◌, Option, Some, None, Result, Ok, Err, ℤ, pos, negsuc}
+use Rattle.std.proofs.Common.{◌≡◌, ℕ, ◌+◌, ◌-◌, Bool, true, false, List, [], ◌∷◌, ◌++◌, length, refl, ap, sym, ◌∙◌, subst, arith, inl, inr}
+use Rattle.std.specs.Prelude.{nat_eq, nat_lt, if◌then◌else◌, ◌&&◌, Option, Some, None, Ok, Err, ℤ, pos, negsuc}
 use Rattle.std.proofs.lemmas.Bool.{eqb-false, eqb-true, ne_eqb, and_parts, cases_lt}
 use Rattle.std.proofs.lemmas.List.{append-nil}
 use Rattle.hessian_graph.specs.declared.value.Value.{Value}
@@ -22,7 +22,7 @@ use Rattle.hessian_reader.specs.declared.stop.Objection.{Objection}
 use Rattle.hessian_reader.specs.declared.stop.Objection.TheVariants.{NoNode, NoType, NoClass, NoLength, TooMany}
 use Rattle.hessian_reader.specs.Leaves.{IsDenoted, node_limit}
 use Rattle.hessian_reader.specs.States.{Built, State, Place, AtValue, AtDefined, AtReference, AtType, AtLength, AtClass, AtName, AtCount, AtField, ToEnd, Count, Key, Mate, start, with_value, with_begun, with_node, begins_node, takes_value, moves_to, begins_object, learns_type, learns_class, awaits_fields, lacks_none, is_at_value, is_done}
-use Rattle.hessian_reader.specs.Steps.{Outcome, if_room, at_value, end_of, end_step, may_end, below, below_by, natural, natural_by, natural_of, behind_type, reference_step, type_step, length_step, class_step, count_step, number_step, words_step, node_step, header_step, head_step, take_element, Leads}
+use Rattle.hessian_reader.specs.Steps.{Outcome, at_value, end_of, end_step, may_end, below, natural, behind_type, class_step, number_step, words_step, node_step, header_step, head_step, take_element, Leads}
 use Rattle.hessian_reader.specs.Steps.Leads.{here, on}
 use Rattle.hessian_reader.proofs.Sound.{Sound}
 use Rattle.hessian_reader.proofs.Outcomes.{some_lacking}

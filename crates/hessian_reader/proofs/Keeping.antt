@@ -1,6 +1,6 @@
 -- Each whole element keeps a state sound.
-use Rattle.std.proofs.Common.{◌≡◌, ℕ, zero, suc, ◌+◌, ◌-◌, ◌<◌, ◌≤◌, true, false, List, [], ◌∷◌, ◌++◌, length, refl, sym, subst, arith, length-append}
-use Rattle.std.specs.Prelude.{Option, Some, None, Result, Ok, Err, ℤ, pos, negsuc}
+use Rattle.std.proofs.Common.{◌≡◌, ℕ, zero, suc, ◌-◌, ◌<◌, false, List, [], ◌∷◌, ◌++◌, length, refl, subst, arith, length-append}
+use Rattle.std.specs.Prelude.{Some, None, Ok, ℤ, pos}
 use Rattle.std.proofs.lemmas.Bool.{ne_eqb}
 use Rattle.hessian_graph.specs.declared.value.Value.TheVariants.{Node}
 use Rattle.hessian_graph.specs.declared.node.Class.{Class}
@@ -18,7 +18,7 @@ use Rattle.hessian_reader.specs.declared.store.OpenNode.{OpenNode}
 use Rattle.hessian_reader.specs.declared.stop.Objection.TheVariants.{NoNode, NoType, NoClass, NoLength}
 use Rattle.hessian_reader.specs.Leaves.{node_limit}
 use Rattle.hessian_reader.specs.States.{State, Place, AtValue, AtDefined, AtReference, AtType, AtLength, AtClass, AtName, AtCount, AtField, ToEnd, Count, Key, Mate, start, begins_node, takes_value, moves_to, closes, begins_object, field_count, learns_type, awaits_fields, lacks_none, is_done}
-use Rattle.hessian_reader.specs.Steps.{Outcome, at_value, end_of, end_step, behind_type, node_step, header_step, class_step, head_step, number_step, words_step, take_element, Leads}
+use Rattle.hessian_reader.specs.Steps.{end_of, end_step, behind_type, node_step, header_step, class_step, head_step, number_step, words_step, take_element, Leads}
 use Rattle.hessian_reader.specs.Steps.Leads.{here, on}
 use Rattle.hessian_reader.proofs.Lacking.{AreOpen}
 use Rattle.hessian_reader.proofs.Sound.{SortFits, PlaceFits, Sound, sound_typed, sound_classed, sound_moves, sound_value, sound_begins, sound_closes}

@@ -1,15 +1,13 @@
 -- A value that was given was lacking before.
-use Rattle.std.proofs.Common.{◌≡◌, ℕ, zero, suc, ◌+◌, ◌-◌, ◌<◌, ◌≤◌, true, false, List, [], ◌∷◌, ◌++◌, length, get_or, refl, ap, sym, ◌∙◌, subst, append_assoc, arith, inl, inr}
-use Rattle.std.specs.Prelude.{nat_eq, nat_le, if◌then◌else◌}
+use Rattle.std.proofs.Common.{◌≡◌, ℕ, zero, suc, ◌-◌, ◌<◌, false, List, [], ◌∷◌, ◌++◌, length, refl, ap, sym, ◌∙◌, subst, append_assoc, arith}
 use Rattle.std.proofs.lemmas.Bool.{lt-leb, eqb-false}
 use Rattle.hessian_graph.specs.declared.value.Value.{Value}
 use Rattle.hessian_graph.specs.Shape.{Shape, values_at}
-use Rattle.hessian_graph.specs.Line.{Symbol, ValueOf, End, values_then}
-use Rattle.hessian_reader.specs.declared.store.Begun.{Begun}
+use Rattle.hessian_graph.specs.Line.{Symbol, ValueOf, values_then}
 use Rattle.hessian_reader.specs.declared.store.Lacks.{Lacks}
 use Rattle.hessian_reader.specs.declared.store.OpenNode.{OpenNode}
 use Rattle.hessian_reader.specs.States.{Built, ToEnd, Count, Key, Mate, values_so_far, with_item, one_less, with_value, lacks_none}
-use Rattle.hessian_reader.proofs.Lacking.{Even, Odd, even_more, odd_more, LacksFit, AllFit, Positive, AreOpen, behind, to_come, share, share_none, owed, owed_first, owed_nothing, item_length, takes_first, Lacking, Lacks'}
+use Rattle.hessian_reader.proofs.Lacking.{even_more, odd_more, LacksFit, AllFit, Positive, AreOpen, behind, to_come, share, share_none, owed, owed_first, item_length, takes_first, Lacking, Lacks'}
 
 module _ (g : Shape) (b : Built) (v : Value) (ss : List Symbol) where
   -- what the graph says of the values once the node has one more

@@ -1,18 +1,15 @@
 -- What each open node, and the roots, still lack of a finished graph.
-use Rattle.std.proofs.Common.{◌≡◌, ℕ, zero, suc, ◌+◌, ◌-◌, ◌<◌, ◌≤◌, true, false, List, [], ◌∷◌, ◌++◌, length, get_or, set, refl, ap, sym, ◌∙◌, subst, append_assoc, arith, inl, inr, length-append, add-zero}
-use Rattle.std.specs.Prelude.{nat_eq, nat_le, if◌then◌else◌, Result, Ok, Err}
-use Rattle.std.proofs.lemmas.Bool.{lt-leb, ne_eqb, eq-eqb, eqb-false, cases_eq}
-use Rattle.std.proofs.lemmas.List.{append-nil, length-set, get_or-set_same, get_or-set_other, get_or_append_left, get_or-append-add}
+use Rattle.std.proofs.Common.{◌≡◌, ℕ, zero, suc, ◌+◌, ◌-◌, ◌<◌, List, [], ◌∷◌, ◌++◌, length, refl, ap, sym, ◌∙◌, subst, append_assoc, arith, inl, inr}
+use Rattle.std.specs.Prelude.{nat_eq, if◌then◌else◌}
+use Rattle.std.proofs.lemmas.Bool.{lt-leb, ne_eqb, eq-eqb, cases_eq}
+use Rattle.std.proofs.lemmas.List.{append-nil, length-set, get_or-set_same, get_or-set_other}
 use Rattle.hessian_graph.specs.declared.value.Value.{Value}
-use Rattle.hessian_graph.specs.declared.value.Value.TheVariants.{Node}
 use Rattle.hessian_graph.specs.Shape.{Shape, values_at}
 use Rattle.hessian_graph.specs.Line.{Symbol, ValueOf, End, values_then}
-use Rattle.hessian_reader.specs.declared.store.Sort.{Sort}
 use Rattle.hessian_reader.specs.declared.store.Begun.{Begun}
 use Rattle.hessian_reader.specs.declared.store.Lacks.{Lacks}
 use Rattle.hessian_reader.specs.declared.store.OpenNode.{OpenNode}
-use Rattle.hessian_reader.specs.States.{Built, State, ToEnd, Count, Key, Mate, no_begun, values_so_far, sort_at, with_item, one_less, with_value, with_open, closes, lacks_none}
-use Rattle.hessian_reader.specs.Steps.{Outcome, end_of, end_step}
+use Rattle.hessian_reader.specs.States.{Built, ToEnd, Count, Key, Mate, no_begun, values_so_far, sort_at, with_item, one_less, with_value}
 
 -- even and odd numbers of values
 

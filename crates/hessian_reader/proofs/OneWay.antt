@@ -1,6 +1,6 @@
 -- Bytes lead one way: what they denote, and where the last root ends, is one thing at most.
-use Rattle.std.proofs.Common.{◌≡◌, ◌≢◌, ℕ, zero, suc, ◌<◌, ◌≤◌, true, false, List, [], ◌∷◌, ◌++◌, length, take, drop, refl, ap, sym, ◌∙◌, subst, append_assoc, arith, inl, inr, ◌⊎◌}
-use Rattle.std.specs.Prelude.{Result, Ok, Err, slice_index}
+use Rattle.std.proofs.Common.{◌≡◌, ◌≢◌, ℕ, zero, suc, ◌<◌, true, false, List, [], ◌∷◌, ◌++◌, length, take, drop, refl, ap, sym, ◌∙◌, subst, append_assoc, arith, inl, inr}
+use Rattle.std.specs.Prelude.{Ok, Err, slice_index}
 use Rattle.std.proofs.lemmas.List.{append-nil, take-append-drop}
 use Rattle.hessian_graph.specs.Shape.{Shape}
 use Rattle.hessian_text.specs.Spelling.{AreBytes}
@@ -8,16 +8,15 @@ use Rattle.hessian_text.proofs.Running.{first_small, later_small}
 use Rattle.hessian_text.proofs.Exactly.{front_bytes}
 use Rattle.hessian_reader.specs.declared.element.Element.{Element}
 use Rattle.hessian_reader.specs.declared.element.Want.{Want}
-use Rattle.hessian_reader.specs.declared.stop.Objection.{Objection}
 use Rattle.hessian_reader.specs.Leaves.{IsDenoted}
-use Rattle.hessian_reader.specs.Elements.{IsElement, BeginsElement, HasNoElement}
+use Rattle.hessian_reader.specs.Elements.{IsElement, BeginsElement}
 use Rattle.hessian_reader.specs.States.{State, start, want_at, is_done, graph_of}
 use Rattle.hessian_reader.specs.Steps.{Outcome, take_element, Leads}
 use Rattle.hessian_reader.specs.Steps.Leads.{here, on}
 use Rattle.hessian_reader.specs.Reading.{EndsAt, NeverEnds, IsStuck}
 use Rattle.hessian_reader.proofs.Elements.{element_some, one_element}
 use Rattle.hessian_reader.proofs.Outcomes.{ok_is}
-use Rattle.hessian_reader.proofs.Running.{IsRead, reads}
+use Rattle.hessian_reader.proofs.Running.{reads}
 
 -- two fronts of the same bytes
 

@@ -1,17 +1,17 @@
 -- A node that begins lacks all that it has in the end, and one that ends lacks nothing.
-use Rattle.std.proofs.Common.{◌≡◌, ℕ, zero, suc, ◌+◌, ◌-◌, ◌<◌, ◌≤◌, true, false, List, [], ◌∷◌, ◌++◌, length, get_or, refl, ap, sym, ◌∙◌, subst, append_assoc, arith, inl, inr, length-append, add-zero}
-use Rattle.std.specs.Prelude.{nat_eq, if◌then◌else◌, Result, Ok, Err}
+use Rattle.std.proofs.Common.{◌≡◌, ℕ, zero, suc, ◌<◌, List, [], ◌∷◌, ◌++◌, length, get_or, refl, ap, sym, ◌∙◌, subst, arith, inl, inr, length-append, add-zero}
+use Rattle.std.specs.Prelude.{Ok}
 use Rattle.std.proofs.lemmas.Bool.{ne_eqb, cases_eq}
 use Rattle.std.proofs.lemmas.List.{append-nil, get_or_append_left, get_or-append-add}
 use Rattle.hessian_graph.specs.declared.value.Value.{Value}
 use Rattle.hessian_graph.specs.Shape.{Shape, values_at}
-use Rattle.hessian_graph.specs.Line.{Symbol, ValueOf, End, values_then}
+use Rattle.hessian_graph.specs.Line.{Symbol, End, values_then}
 use Rattle.hessian_reader.specs.declared.store.Sort.{Sort}
 use Rattle.hessian_reader.specs.declared.store.Begun.{Begun}
 use Rattle.hessian_reader.specs.declared.store.Lacks.{Lacks}
 use Rattle.hessian_reader.specs.declared.store.OpenNode.{OpenNode}
-use Rattle.hessian_reader.specs.States.{Built, State, ToEnd, Count, Key, Mate, no_begun, values_so_far, sort_at, with_open, closes}
-use Rattle.hessian_reader.specs.Steps.{Outcome, end_of, end_step}
+use Rattle.hessian_reader.specs.States.{State, ToEnd, Count, Key, Mate, no_begun, values_so_far, with_open, closes}
+use Rattle.hessian_reader.specs.Steps.{end_of, end_step}
 use Rattle.hessian_reader.proofs.Lacking.{Even, never_odd, LacksFit, AllFit, AreOpen, behind, to_come, share, share_here, share_there, share_none, owed, owed_first, owed_past, rest_is, Lacking}
 
 -- `Z` takes the innermost open node away

@@ -1,8 +1,7 @@
 -- What an outcome says of the tests before it.
-use Rattle.std.proofs.Common.{◌≡◌, ℕ, ◌<◌, Bool, true, false, List, length, refl, sym, ◌⊎◌, inl, inr}
-use Rattle.std.specs.Prelude.{◌&&◌, nat_lt, if◌then◌else◌, Option, Some, None, Result, Ok, Err, ℤ, pos, negsuc}
+use Rattle.std.proofs.Common.{◌≡◌, ℕ, ◌<◌, Bool, true, false, length, refl, ◌⊎◌, inl, inr}
+use Rattle.std.specs.Prelude.{◌&&◌, nat_lt, if◌then◌else◌, Ok, Err, ℤ, pos, negsuc}
 use Rattle.std.proofs.lemmas.Bool.{ltb-true}
-use Rattle.hessian_reader.specs.declared.store.OpenNode.{OpenNode}
 use Rattle.hessian_reader.specs.declared.stop.Objection.{Objection}
 use Rattle.hessian_reader.specs.declared.stop.Objection.TheVariants.{TooMany}
 use Rattle.hessian_reader.specs.Leaves.{node_limit}

@@ -1,12 +1,12 @@
 -- The values of a map that was read are whole pairs.
-use Rattle.std.proofs.Common.{◌≡◌, ℕ, suc, ◌-◌, ◌<◌, ◌≤◌, true, false, List, [], ◌∷◌, ◌++◌, length, get_or, refl, ap, sym, ◌∙◌, subst, arith, inl, inr, ◌⊎◌}
-use Rattle.std.specs.Prelude.{map, Option, Some, None}
+use Rattle.std.proofs.Common.{◌≡◌, ℕ, suc, ◌-◌, ◌<◌, ◌≤◌, List, [], ◌∷◌, length, get_or, refl, ap, sym, ◌∙◌, subst, arith, inl, inr}
+use Rattle.std.specs.Prelude.{Option, Some, None}
 use Rattle.std.proofs.lemmas.Bool.{cases_lt}
 use Rattle.std.proofs.lemmas.List.{get_or-map, length-map}
 use Rattle.hessian_graph.specs.declared.value.Value.{Value}
 use Rattle.hessian_graph.specs.declared.node.Class.{Class}
 use Rattle.hessian_graph.specs.Shape.{Text, Kind, ListKind, MapKind, ObjectKind, NodeShape, Shape, values_at, kind_at, no_node, no_class}
-use Rattle.hessian_graph.specs.Reading.{Tables, Leaves, no_tables, one_more, add_type}
+use Rattle.hessian_graph.specs.Reading.{Tables, Leaves, one_more, add_type}
 use Rattle.hessian_graph.specs.Spells.{ArePairs, Begins}
 use Rattle.hessian_graph.specs.Line.{Form as LineForm, Open, Long, Short, Pairs, Symbol, ValueOf, End, Reference, TypeFor, LengthFor, ClassFor, NameOf, CountOf, FieldOf, values_then, fields_then, defined, typed_kind, behind_type, begun_by, TypedCode, Row, Line}
 use Rattle.hessian_graph.specs.Line.TypedCode.{open_list as c_open_list, long_list as c_long_list, short_list as c_short_list, map as c_map}
@@ -15,7 +15,6 @@ use Rattle.hessian_graph.specs.Line.Line.{done, next}
 use Rattle.hessian_graph.proofs.ToLine.{line_of}
 use Rattle.hessian_reader.specs.declared.store.Sort.{Sort}
 use Rattle.hessian_reader.specs.declared.store.Sort.TheVariants as sorts
-use Rattle.hessian_reader.specs.declared.store.Begun.{Begun}
 use Rattle.hessian_reader.specs.Leaves.{IsDenoted}
 use Rattle.hessian_reader.specs.Names.{Names}
 use Rattle.hessian_reader.specs.Finish.{IsWhole, MapsAreWhole}

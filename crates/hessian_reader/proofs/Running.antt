@@ -1,11 +1,9 @@
 -- What whole bytes denote is what whole elements lead to.
-use Rattle.std.proofs.Common.{◌≡◌, ℕ, suc, ◌<◌, ◌≤◌, true, false, List, [], ◌∷◌, ◌++◌, length, refl, ap, sym, ◌∙◌, subst, arith}
+use Rattle.std.proofs.Common.{◌≡◌, ℕ, ◌≤◌, true, List, [], ◌∷◌, length, refl, ap, sym, ◌∙◌, subst, arith}
 use Rattle.std.proofs.lemmas.List.{length-map}
-use Rattle.hessian_graph.specs.declared.value.Value.{Value}
 use Rattle.hessian_graph.specs.declared.node.Class.{Class}
 use Rattle.hessian_graph.specs.Shape.{Text, Shape}
 use Rattle.hessian_graph.specs.Reading.{Tables, Leaves, no_tables, add_type}
-use Rattle.hessian_graph.specs.Spells.{Denotes}
 use Rattle.hessian_graph.specs.Line.{Form as LineForm, Open, Long, Short, Pairs, Symbol, values_then, defined, begun_by, Row, Line}
 use Rattle.hessian_graph.specs.Line.Row.{scalar as r_scalar, text as r_text, binary as r_binary, end as r_end, refer as r_refer, reference as r_reference, define as r_define, class_name as r_class_name, field_count as r_field_count, field_name as r_field_name, open_list as r_open_list, long_list as r_long_list, short_list as r_short_list, list_length as r_list_length, typed as r_typed, type_name as r_type_name, type_number as r_type_number, open_map as r_open_map, long_object as r_long_object, class_number as r_class_number, short_object as r_short_object}
 use Rattle.hessian_graph.specs.Line.Line.{done, next}
@@ -17,7 +15,8 @@ use Rattle.hessian_reader.specs.Steps.{Leads}
 use Rattle.hessian_reader.specs.Steps.Leads.{here, on}
 use Rattle.hessian_reader.proofs.Lacking.{Lacks', roots_lack}
 use Rattle.hessian_reader.proofs.Sound.{Sound}
-use Rattle.hessian_reader.proofs.Ahead.{tables_of, Ahead, Has}
+use Rattle.hessian_reader.specs.Slots.{tables_of}
+use Rattle.hessian_reader.proofs.Ahead.{Ahead, Has}
 use Rattle.hessian_reader.proofs.Ahead.Ahead.{value}
 use Rattle.hessian_reader.proofs.Forward.{forward}
 use Rattle.hessian_reader.proofs.Backward.{backward}

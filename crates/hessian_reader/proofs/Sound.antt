@@ -1,7 +1,7 @@
 -- What holds of each state that a reading comes to.
-use Rattle.std.proofs.Common.{◌≡◌, ℕ, zero, suc, ◌+◌, ◌-◌, ◌<◌, ◌≤◌, true, false, List, [], ◌∷◌, ◌++◌, length, get_or, refl, ap, sym, ◌∙◌, subst, arith, inl, inr, length-append, add-zero}
-use Rattle.std.specs.Prelude.{nat_eq, nat_le, if◌then◌else◌, Option, Some, None}
-use Rattle.std.proofs.lemmas.Bool.{leb-false, eqb-false, ne_eqb, cond_both, cases_eq}
+use Rattle.std.proofs.Common.{◌≡◌, ℕ, suc, ◌-◌, ◌<◌, ◌≤◌, false, List, [], ◌∷◌, ◌++◌, length, get_or, refl, ap, sym, ◌∙◌, subst, arith, inl, inr, length-append, add-zero}
+use Rattle.std.specs.Prelude.{nat_eq, nat_le, Option, Some, None}
+use Rattle.std.proofs.lemmas.Bool.{leb-false, eqb-false, cond_both, cases_eq}
 use Rattle.std.proofs.lemmas.List.{get_or_append_left, get_or-append-add}
 use Rattle.hessian_graph.specs.declared.value.Value.{Value}
 use Rattle.hessian_graph.specs.declared.value.Value.TheVariants.{Node}

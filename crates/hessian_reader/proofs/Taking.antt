@@ -1,6 +1,6 @@
 -- What a reader makes of the next element, and why one is refused.
-use Rattle.std.proofs.Common.{◌≡◌, ◌≢◌, ℕ, zero, suc, ◌<◌, List, [], ◌∷◌, ◌++◌, take, refl, subst, arith, append-nil}
-use Rattle.std.specs.Prelude.{Result, Err}
+use Rattle.std.proofs.Common.{◌≡◌, ◌≢◌, ℕ, zero, suc, ◌<◌, List, [], ◌∷◌, ◌++◌, take, refl, sym, subst, arith, append-nil}
+use Rattle.std.specs.Prelude.{Result, Ok, Err, IfErr, IsErrAnd}
 use Rattle.hessian_text.specs.Spelling.{AreBytes}
 use Rattle.hessian_reader.specs.declared.element.Element.{Element}
 use Rattle.hessian_reader.specs.declared.element.Want.{Want}
@@ -11,7 +11,9 @@ use Rattle.hessian_reader.specs.declared.stop.Stop.{Stop}
 use Rattle.hessian_reader.specs.declared.stop.Stop.TheVariants.{NoMemory, Objects}
 use Rattle.hessian_reader.specs.declared.stop.Objection.{Objection}
 use Rattle.hessian_reader.specs.Elements.{IsElement}
+use Rattle.hessian_reader.specs.Faults.{cause_of}
 use Rattle.hessian_reader.specs.Lexing.{Holds}
+use Rattle.hessian_reader.specs.Refusing.{fault_of}
 use Rattle.hessian_reader.specs.States.{State}
 use Rattle.hessian_reader.specs.Steps.{Outcome}
 use Rattle.hessian_reader.specs.Views.{Does}
@@ -21,6 +23,16 @@ use Rattle.hessian_reader.proofs.Elements.{element_some, one_element, holds_begi
 pub objected : (stop : Stop) (fault : HessianFault) (new : State) (outcome : Outcome) → Does (Err stop) new outcome → (stop ≡ NoMemory → fault ≡ OutOfMemory) → fault ≢ OutOfMemory → (o : Objection) × (outcome ≡ Err o)
 objected NoMemory fault new outcome done memory other = absurd (other (memory refl))
 objected (Objects o) fault new outcome done memory other = (o, done)
+
+-- and the objection says at what place, and why
+pub objected_as : (stop : Stop) (fault : HessianFault) (new : State) (outcome : Outcome) (at : ℕ) → Does (Err stop) new outcome → (stop ≡ NoMemory → fault ≡ OutOfMemory) → ((o : Objection) → stop ≡ Objects o → fault ≡ fault_of (cause_of o at)) → fault ≢ OutOfMemory → (o : Objection) × (outcome ≡ Err o) × (fault ≡ fault_of (cause_of o at))
+objected_as NoMemory fault new outcome at done memory is other = absurd (other (memory refl))
+objected_as (Objects o) fault new outcome at done memory is other = (o, done, is o refl)
+
+-- what is passed on is the same refusal
+pub passed_on : {A : Type 0} (result : Result A HessianFault) (fault : HessianFault) → IsErrAnd result (λ e. e ≡ fault) → (P : HessianFault → Type 0) → P fault → IfErr result P
+passed_on (Ok v) fault same P p = tt
+passed_on (Err e) fault same P p = subst P (sym same) p
 
 no_end_here : (w : Want) (inside : Inside) (came : List ℕ) (x : Element) → AreBytes came → Holds w inside came → IsElement w came x → ⊥
 no_end_here w inside [] x small holds ends = element_some w [] x ends refl

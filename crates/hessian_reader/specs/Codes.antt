@@ -1,5 +1,5 @@
 -- What codes begin, and which elements whole leaves are.
-use Rattle.std.specs.Prelude.{◌≡◌, ℕ, ◌-◌, List, nat_eq, nat_le, nat_lt, ◌||◌, if◌then◌else◌, Option, Some, None}
+use Rattle.std.specs.Prelude.{ℕ, ◌-◌, List, nat_eq, nat_le, if◌then◌else◌, Option, Some, None}
 use Rattle.std.specs.Int.{is_in_range}
 use Rattle.hessian_graph.specs.declared.value.Value.{Value}
 use Rattle.hessian_graph.specs.declared.value.Value.TheVariants as values

@@ -4,7 +4,6 @@ use Rattle.hessian_graph.specs.declared.value.Value.{Value}
 use Rattle.hessian_graph.specs.declared.value.Value.TheVariants as values
 use Rattle.hessian_graph.specs.Reading.{IsScalar, IsCode}
 use Rattle.hessian_text.specs.Spelling.{TextSpelling, BinarySpelling, AreBytes}
-use Rattle.hessian_reader.specs.declared.element.Form.{Form}
 use Rattle.hessian_reader.specs.declared.element.Form.TheVariants as forms
 use Rattle.hessian_reader.specs.declared.element.Head.{Head}
 use Rattle.hessian_reader.specs.declared.element.Head.TheVariants as heads

@@ -1,5 +1,5 @@
 -- The nodes of a graph, and those of a reading that is done.
-use Rattle.std.specs.Prelude.{◌≡◌, ℕ, ◌<◌, List, length, get_or, map}
+use Rattle.std.specs.Prelude.{◌≡◌, ℕ, ◌<◌, List, length, get_or}
 use Rattle.hessian_graph.specs.declared.value.Value.{Value}
 use Rattle.hessian_graph.specs.declared.node.Node.{Node}
 use Rattle.hessian_graph.specs.declared.node.Node.TheVariants as nodes
@@ -8,7 +8,7 @@ use Rattle.hessian_graph.specs.Spells.{ArePairs}
 use Rattle.hessian_reader.specs.declared.store.Sort.{Sort}
 use Rattle.hessian_reader.specs.declared.store.Sort.TheVariants as sorts
 use Rattle.hessian_reader.specs.declared.store.Begun.{Begun}
-use Rattle.hessian_reader.specs.States.{State, no_begun, sort_at, values_so_far}
+use Rattle.hessian_reader.specs.States.{State, sort_at, values_so_far}
 
 -- the node is of this sort and has these values; a map's, where they are whole pairs
 abbrev pub IsNodeOf : Sort → List Value → Node → Type 0

@@ -1,5 +1,5 @@
 -- How the leaves of a graph are spelled: the relations of the crates of scalars and of texts.
-use Rattle.std.specs.Prelude.{ℕ, ◌≤◌, List}
+use Rattle.std.specs.Prelude.{ℕ, List}
 use Rattle.hessian_graph.specs.declared.value.Value.{Value}
 use Rattle.hessian_graph.specs.declared.value.Value.TheVariants as values
 use Rattle.hessian_graph.specs.Shape.{Shape}

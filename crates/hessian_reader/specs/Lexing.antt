@@ -1,5 +1,5 @@
 -- An element of which some bytes came, and what more bytes make of it.
-use Rattle.std.specs.Prelude.{◌≡◌, ◌≢◌, ℕ, ◌<◌, ◌≤◌, List, [], ◌++◌, length, take}
+use Rattle.std.specs.Prelude.{◌≡◌, ◌≢◌, ℕ, ◌<◌, ◌≤◌, List, [], ◌++◌, take}
 use Rattle.hessian_scalars.specs.Read.{IsProperPrefix, IsIntPrefix}
 use Rattle.hessian_text.specs.declared.stage.Kind.{Kind}
 use Rattle.hessian_text.specs.declared.stage.Kind.TheVariants as kinds

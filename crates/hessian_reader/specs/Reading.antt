@@ -16,6 +16,7 @@ use Rattle.hessian_reader.specs.States.{State, start, want_at, is_done}
 use Rattle.hessian_reader.specs.Steps.{Leads, take_element}
 use Rattle.hessian_reader.specs.Lexing.{Holds}
 use Rattle.hessian_reader.specs.Views.{state_of}
+use Rattle.hessian_reader.specs.Refusing.{IsStoppedBy}
 
 -- the last of so many roots ends behind so many of the bytes
 pub record EndsAt (roots : ℕ) (bytes : List ℕ) (n : ℕ) : Type 0 where
@@ -89,9 +90,18 @@ Nexts old at came piece new (Ok None) = GoesOn old new came piece
 Nexts old at came piece new (Ok (Some used)) = TakesOne old new at came piece used
 Nexts old at came piece new (Err fault) = fault ≢ OutOfMemory → IsStuck (state_of old.work) came piece
 
+-- The bytes up to the end of a piece stop for what the fault tells, where the piece begins at a place, whole elements led
+-- to the reader, and the element that has begun stands behind them.
+abbrev pub StopsIn : GraphReader → ℕ → List ℕ → HessianFault → Type 0
+StopsIn old at piece fault = (roots : ℕ) (before came : List ℕ) → AreBytes came → Leads (start roots) before (state_of old.work)
+    → is_done (state_of old.work) ≡ false → old.from ≡ length before → at ≡ length before + length came
+    → old.lexer.want ≡ want_at old.work.place → Holds old.lexer.want old.lexer.inside came
+    → IsStoppedBy roots (before ++ (came ++ piece)) fault
+
 -- a reader of so many roots was fed these bytes
 pub record HasRead (r : GraphReader) (roots : ℕ) (fed : List ℕ) : Type 0 where
   pub counted : r.fed ≡ length fed
   pub bytes : AreBytes fed
   pub follows : r.refused ≡ None → Follows r roots fed
   pub refused : (f : HessianFault) → r.refused ≡ Some f → f ≢ OutOfMemory → NeverEnds roots fed
+  pub stopped : (f : HessianFault) → r.refused ≡ Some f → f ≢ OutOfMemory → IsStoppedBy roots fed f

@@ -1,5 +1,5 @@
 -- What a reading has made of the elements that came.
-use Rattle.std.specs.Prelude.{◌≡◌, ℕ, ◌+◌, ◌-◌, List, [], ◌∷◌, ◌++◌, length, get_or, set, Bool, true, false, ◌&&◌, nat_le, nat_eq, if◌then◌else◌, map, Option, Some, None}
+use Rattle.std.specs.Prelude.{ℕ, ◌-◌, List, [], ◌∷◌, ◌++◌, length, get_or, set, Bool, true, false, ◌&&◌, nat_le, nat_eq, if◌then◌else◌, map, Option, Some, None}
 use Rattle.hessian_graph.specs.declared.value.Value.{Value}
 use Rattle.hessian_graph.specs.declared.value.Value.TheVariants.{Node}
 use Rattle.hessian_graph.specs.declared.node.Class.{Class}

@@ -1,7 +1,6 @@
 -- What each whole element does to a state.
-use Rattle.std.specs.Prelude.{◌≡◌, ℕ, ◌-◌, ◌++◌, List, [], ◌∷◌, length, Bool, true, false, nat_lt, if◌then◌else◌, Option, Some, None, Result, Ok, Err, ℤ, pos, negsuc}
+use Rattle.std.specs.Prelude.{◌≡◌, ℕ, ◌-◌, ◌++◌, List, [], ◌∷◌, length, false, nat_lt, if◌then◌else◌, Option, Some, None, Result, Ok, Err, ℤ, pos, negsuc}
 use Rattle.hessian_graph.specs.declared.value.Value.TheVariants.{Node}
-use Rattle.hessian_graph.specs.declared.node.Class.{Class}
 use Rattle.hessian_graph.specs.Shape.{Text}
 use Rattle.hessian_reader.specs.declared.element.Form.{Form}
 use Rattle.hessian_reader.specs.declared.element.Form.TheVariants as forms

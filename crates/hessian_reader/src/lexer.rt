@@ -4,6 +4,7 @@ ghost use Rattle.std.specs.Prelude.{◌≡◌, ◌<◌, ◌++◌, ℕ, List, [],
 ghost use Rattle.hessian_text.specs.Spelling.{AreBytes};
 ghost use Rattle.hessian_reader.specs.Codes.{head_of, kind_of, value_of, scalar_element, chunk_element};
 ghost use Rattle.hessian_reader.specs.Lexing.{Holds, IsWithin, Lexes};
+ghost use Rattle.hessian_reader.specs.Refusing.{RefusesByte};
 ghost use Rattle.hessian_reader.specs.Starting.{LeadsChunks, LeadsScalar};
 
 use crate::chunks::Chunks;
@@ -142,6 +143,8 @@ impl Lexer {
         ensures within { IfOk result (IsWithin (length piece.now)) }
         ensures lexes { (came : List ℕ) → AreBytes came → Holds self.old.want self.old.inside came
             → IfOk result (Lexes self.old.want came piece.now self.new) }
+        ensures refuses { (came : List ℕ) → AreBytes came → Holds self.old.want self.old.inside came
+            → IfOk result (RefusesByte self.old.want came piece.now) }
     {
         match mem::replace(&mut self.inside, Inside::Nothing) {
             Inside::Nothing => self.begin(alloc, piece),
@@ -155,6 +158,7 @@ impl Lexer {
         requires nothing { self.old.inside ≡ Inside.Nothing }
         ensures within { IfOk result (IsWithin (length piece.now)) }
         ensures lexes { IfOk result (Lexes self.old.want [] piece.now self.new) }
+        ensures refuses { IfOk result (RefusesByte self.old.want [] piece.now) }
     {
         let [code, ..] = *piece else {
             return Ok(Lexed::More);
@@ -180,6 +184,7 @@ impl Lexer {
         requires first { code ≡ slice_index piece.now 0 }
         ensures within { IfOk result (IsWithin (length piece.now)) }
         ensures lexes { IfOk result (Lexes self.old.want [] piece.now self.new) }
+        ensures refuses { IfOk result (RefusesByte self.old.want [] piece.now) }
     {
         if let Some(head) = head_of(code) {
             return Ok(Lexed::Whole(Element::Code(head), 1));
@@ -197,6 +202,7 @@ impl Lexer {
         requires first { code ≡ slice_index piece.now 0 }
         ensures within { IsWithin (length piece.now) result }
         ensures lexes { Lexes self.old.want [] piece.now self.new result }
+        ensures refuses { RefusesByte self.old.want [] piece.now result }
     {
         if begins_int(code) {
             self.go_on(ScalarReader::new(), piece)
@@ -209,6 +215,7 @@ impl Lexer {
     fn go_on(&mut self, reader: ScalarReader, piece: &[u8]) -> Lexed
         ensures within { IsWithin (length piece.now) result }
         ensures lexes { LeadsScalar self.old.want (reader ++ piece.now) → Lexes self.old.want reader piece.now self.new result }
+        ensures refuses { LeadsScalar self.old.want (reader ++ piece.now) → RefusesByte self.old.want reader piece.now result }
     {
         let mut reader = reader;
         match reader.feed(piece) {
@@ -227,6 +234,8 @@ impl Lexer {
         ensures within { IfOk result (IsWithin (length piece.now)) }
         ensures lexes { (came : List ℕ) → AreBytes came → LeadsChunks self.old.want chunks.reader came piece.now
             → IfOk result (Lexes self.old.want came piece.now self.new) }
+        ensures refuses { (came : List ℕ) → AreBytes came → LeadsChunks self.old.want chunks.reader came piece.now
+            → IfOk result (RefusesByte self.old.want came piece.now) }
     {
         let Chunks { kind, reader } = chunks;
         let mut reader = reader;

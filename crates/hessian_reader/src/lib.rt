@@ -19,7 +19,9 @@ mod store;
 mod work;
 
 pub use fault::HessianFault;
-pub use law::bytes_denote_one_graph;
+pub use law::{
+    a_refusal_stays, bytes_denote_one_graph, fronts_of_a_graph_are_short, no_graph_is_refused,
+};
 pub use reader::{Fed, GraphReader};
 pub use reading::read_graph;
 

@@ -1,6 +1,9 @@
 //! A reader of graphs that takes its bytes in pieces.
 
 ghost use Rattle.std.specs.Prelude.{◌≡◌, ◌≢◌, ℕ, ◌+◌, ◌<◌, ◌≤◌, ◌++◌, List, [], length, take, Some, None, Err, false, IfOk, IfErr, IfSome};
+ghost use Rattle.hessian_reader.specs.declared.stop.Objection.{Objection as Objections};
+ghost use Rattle.hessian_reader.specs.Faults.{cause_of};
+ghost use Rattle.hessian_reader.specs.Refusing.{fault_of};
 
 use crate::element::Element;
 use crate::fault::HessianFault;
@@ -39,7 +42,8 @@ pub struct GraphReader {
 
 /// The refusal of an element that began at a place.
 fn refused_at(stop: Stop, at: usize) -> HessianFault
-    ensures { stop ≡ Stop.NoMemory → result ≡ HessianFault.OutOfMemory }
+    ensures memory { stop ≡ Stop.NoMemory → result ≡ HessianFault.OutOfMemory }
+    ensures tells { (o : Objections) → stop ≡ Stop.Objects o → result ≡ fault_of (cause_of o at) }
 {
     match stop {
         Stop::NoMemory => HessianFault::OutOfMemory,
@@ -59,8 +63,10 @@ impl GraphReader {
     ghost use Rattle.hessian_reader.specs.declared.fault.HessianFault.{HessianFault as Faults};
     ghost use Rattle.hessian_reader.specs.Leaves.{IsDenoted};
     ghost use Rattle.hessian_reader.specs.Lexing.{Holds};
-    ghost use Rattle.hessian_reader.specs.Reading.{EndsAt, Follows, HasRead, NeverEnds, Nexts, Tells, Took, fed_in_all, refusal_of};
+    ghost use Rattle.hessian_reader.specs.Reading.{EndsAt, Follows, HasRead, NeverEnds, Nexts, StopsIn, Tells, Took, fed_in_all, refusal_of};
+    ghost use Rattle.hessian_reader.specs.Refusing.{IsRefusedBy, IsStoppedBy};
     ghost use Rattle.hessian_reader.specs.States.{is_done, want_at};
+    ghost use Rattle.hessian_reader.specs.Steps.{take_element};
     ghost use Rattle.hessian_reader.specs.Views.{state_of};
 
     /// A reader of so many roots, to which nothing was fed.
@@ -95,6 +101,10 @@ impl GraphReader {
         // Only where the last root never ends, however the bytes go on, is anything refused; or for want of memory.
         ensures refused { (roots : ℕ) (fed : List ℕ) → HasRead self.old roots fed
             → IfErr result (λ fault. fault ≢ HessianFault.OutOfMemory → NeverEnds roots (fed ++ piece.now)) }
+
+        // It is the refusal of all that was fed: the place where no such graph goes on, and why.
+        ensures why { (roots : ℕ) (fed : List ℕ) → HasRead self.old roots fed
+            → IfErr result (λ fault. fault ≢ HessianFault.OutOfMemory → IsStoppedBy roots (fed ++ piece.now) fault) }
         ensures keeps { IfErr result (λ fault. refusal_of self.new ≡ Some fault) }
 
         // After a refusal nothing changes.
@@ -124,6 +134,8 @@ impl GraphReader {
             → IfOk result (λ told. Tells roots fed piece.now told × Follows self.new roots (fed ++ piece.now)) }
         ensures refused { (roots : ℕ) (fed : List ℕ) → self.old.fed ≡ length fed → AreBytes fed → Follows self.old roots fed
             → IfErr result (λ fault. fault ≢ HessianFault.OutOfMemory → NeverEnds roots (fed ++ piece.now)) }
+        ensures why { (roots : ℕ) (fed : List ℕ) → self.old.fed ≡ length fed → AreBytes fed → Follows self.old roots fed
+            → IfErr result (λ fault. fault ≢ HessianFault.OutOfMemory → IsStoppedBy roots (fed ++ piece.now) fault) }
     {
         let mut taken = 0;
         while taken < piece.len() {
@@ -153,6 +165,7 @@ impl GraphReader {
         ensures within { IfOk result (λ end. IfSome end (λ used. used ≤ length piece.now)) }
         ensures nexts { (came : List ℕ) → AreBytes came → self.old.lexer.want ≡ want_at self.old.work.place → Holds self.old.lexer.want self.old.lexer.inside came
             → Nexts self.old at came piece.now self.new result }
+        ensures why { IfErr result (λ fault. fault ≢ HessianFault.OutOfMemory → StopsIn self.old at piece.now fault) }
     {
         let alloc = self.work.store.alloc;
         match self.lexer.feed(alloc, piece)? {
@@ -180,6 +193,8 @@ impl GraphReader {
     fn take(&mut self, element: Element) -> Result<(), HessianFault>
         ensures same { (self.new.fed ≡ self.old.fed) × (self.new.refused ≡ self.old.refused) }
         ensures took { Took (state_of self.old.work) element self.new result }
+        ensures why { IfErr result (λ fault. fault ≢ HessianFault.OutOfMemory
+            → (o : Objections) × (take_element (state_of self.old.work) element ≡ Err o) × (fault ≡ fault_of (cause_of o self.old.from))) }
     {
         match self.work.take(element) {
             Ok(()) => {
@@ -199,6 +214,10 @@ impl GraphReader {
         ensures short { (roots : ℕ) (fed : List ℕ) → refusal_of self ≡ None → HasRead self roots fed
             → IfErr result (λ fault. fault ≢ HessianFault.OutOfMemory
             → (fault ≡ HessianFault.Short (length fed)) × ((n : ℕ) → EndsAt roots fed n → ⊥)) }
+
+        // It is the refusal of what was fed, kind and place.
+        ensures why { (roots : ℕ) (fed : List ℕ) → HasRead self roots fed
+            → IfErr result (λ fault. fault ≢ HessianFault.OutOfMemory → IsRefusedBy roots fed fault) }
     {
         if let Some(fault) = self.refused {
             return Err(fault);

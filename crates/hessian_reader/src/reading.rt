@@ -3,6 +3,7 @@
 ghost use Rattle.std.specs.Prelude.{◌≡◌, ◌≢◌, ℕ, length, MatchResult, IfOk, IfErr};
 ghost use Rattle.hessian_graph.specs.Shape.{Shape, shape_of};
 ghost use Rattle.hessian_reader.specs.Leaves.{IsDenoted};
+ghost use Rattle.hessian_reader.specs.Refusing.{IsRefusedBy};
 
 use crate::fault::HessianFault;
 use crate::reader::{Fed, GraphReader};
@@ -23,6 +24,9 @@ pub fn read_graph(alloc: Global, bytes: &[u8], roots: u32) -> Result<Graph, Hess
     // Nothing else is refused.
     ensures refused { IfErr result (λ fault. fault ≢ HessianFault.OutOfMemory → (g : Shape)
         → IsDenoted bytes.now g → length g.roots ≡ roots → ⊥) }
+
+    // What is refused is refused for the cause, and at the place, that the definition of refusals gives.
+    ensures why { IfErr result (λ fault. fault ≢ HessianFault.OutOfMemory → IsRefusedBy roots bytes.now fault) }
 {
     let mut reader = GraphReader::new(alloc, roots);
     match reader.feed(bytes) {

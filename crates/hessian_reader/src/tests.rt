@@ -210,6 +210,26 @@ fn each_refusal_has_its_place(rt: HostRuntime) {
             HessianFault::BadCode { at: 4, code: 0x90 },
         ),
         (b"\x79\x02a\xff", HessianFault::BadText { at: 3 }),
+        // A stated length or count takes no values, and no memory, before they come.
+        (
+            b"\x43\x00\x49\x7f\xff\xff\xff",
+            HessianFault::Short { at: 7 },
+        ),
+        (
+            b"\x43\x00\x8f",
+            HessianFault::BadLength { at: 2, number: -1 },
+        ),
+        // Where a name, a type, a class or a value is wanted.
+        (b"\x43\x90", HessianFault::BadCode { at: 1, code: 0x90 }),
+        (b"\x70\x44", HessianFault::BadCode { at: 1, code: 0x44 }),
+        (b"\x4f\x90", HessianFault::BadClass { at: 1, number: 0 }),
+        (b"\x45", HessianFault::BadCode { at: 0, code: 0x45 }),
+        (
+            b"\x41\x00\x01a\x90",
+            HessianFault::BadCode { at: 4, code: 0x90 },
+        ),
+        // A character that was cut in two is refused where it begins.
+        (b"\x02a\xc3\x28", HessianFault::BadText { at: 2 }),
     ];
     for (bytes, fault) in table {
         assert_eq!(rt; read_graph(alloc, bytes, 1).err(), Some(fault));

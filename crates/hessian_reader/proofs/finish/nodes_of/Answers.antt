@@ -1,5 +1,4 @@
-use Rattle.std.proofs.Common.{sym, subst, ◌++◌, ◌∷◌, [], List}
-use Rattle.hessian_graph.specs.declared.node.Node.{Node}
+use Rattle.std.proofs.Common.{sym, subst, ◌++◌, ◌∷◌, []}
 use Rattle.hessian_reader.specs.Finish.{AreNodesOf}
 use Rattle.hessian_reader.proofs.Finishing.{node_more}
 use Rattle.hessian_reader.proofs.finish.nodes_of.Goals as goal

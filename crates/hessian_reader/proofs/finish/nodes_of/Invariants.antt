@@ -1,4 +1,3 @@
-use Rattle.std.proofs.Common.{◌≡◌}
 use Rattle.hessian_reader.specs.Finish.{AreNodesOf}
 use Rattle.hessian_reader.proofs.finish.nodes_of.Given as goal
 

@@ -1,4 +1,4 @@
-use Rattle.std.proofs.Common.{sym, ◌≡◌, ap, ◌∙◌, ◌++◌, arith, length}
+use Rattle.std.proofs.Common.{sym, ◌≡◌, ap, ◌∙◌, ◌++◌, length}
 use Rattle.std.specs.Vec.Iter.{into_iter_items}
 use Rattle.hessian_graph.specs.Shape.{alternately}
 use Rattle.hessian_reader.proofs.Finishing.{pair_more, no_key_alone}

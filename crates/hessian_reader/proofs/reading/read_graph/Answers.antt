@@ -1,8 +1,11 @@
-use Rattle.std.proofs.Common.{◌≡◌, ◌∙◌, List, ℕ, [], length, subst, arith}
-use Rattle.hessian_text.specs.Spelling.{AreBytes}
+use Rattle.std.proofs.Common.{◌≡◌, [], length, sym, subst, arith}
+use Rattle.hessian_reader.specs.declared.fault.HessianFault.TheVariants as faults
 use Rattle.hessian_reader.specs.declared.reader.Fed.TheVariants as done
 use Rattle.hessian_reader.specs.Reading.{Tells}
+use Rattle.hessian_reader.specs.Refusing.{IsRefusedBy}
 use Rattle.hessian_reader.proofs.Whole.{ends_once, ends_whole, refuses, never_completes, whole_ok, none_ok, completes}
+use Rattle.hessian_reader.proofs.Behind.{trailing_refused}
+use Rattle.hessian_reader.proofs.Cut.{stopped_refused}
 use Rattle.hessian_reader.proofs.reading.read_graph.Goals as goal
 
 pub returns-in-Err-clause-complete : goal.returns-in-Err-clause-complete
@@ -62,3 +65,25 @@ pub returns-else-used-bytes-clause-refused : goal.returns-else-used-bytes-clause
 returns-else-used-bytes-clause-refused c =
     let q = c.in-Ok-Done.ensures.tells c.args.roots [] c.new-reader.ensures.begins in
     refuses c.args.roots c.args.bytes.now c.finish-in-Ok-Done.result (completes c.args.roots c.args.bytes.now c.finish-in-Ok-Done.result q.1.bytes (c.finish-in-Ok-Done.ensures.ok c.args.roots c.args.bytes.now q.1) (c.finish-in-Ok-Done.ensures.short c.args.roots c.args.bytes.now c.in-Ok-Done.ensures.serves q.1))
+
+pub returns-in-Err-clause-why : goal.returns-in-Err-clause-why
+returns-in-Err-clause-why c = λ some. stopped_refused c.args.roots c.args.bytes.now c.in-Err.fault (c.in-Err.ensures.why c.args.roots [] c.new-reader.ensures.begins some)
+
+pub returns-in-Ok-More-clause-why : goal.returns-in-Ok-More-clause-why
+returns-in-Ok-More-clause-why c =
+    let q = c.in-Ok-More.ensures.tells c.args.roots [] c.new-reader.ensures.begins in
+    c.finish.ensures.why c.args.roots c.args.bytes.now q.1
+
+pub returns-then-used-bytes-clause-why : goal.returns-then-used-bytes-clause-why
+returns-then-used-bytes-clause-why c = λ some.
+    let q = c.in-Ok-Done.ensures.tells c.args.roots [] c.new-reader.ensures.begins in
+    let told : Tells c.args.roots [] c.args.bytes.now (done.Done c.in-Ok-Done.used) = subst (Tells c.args.roots [] c.args.bytes.now) c.in-Ok-Done.field-0-is q.0 in
+    let (n, ends, used, low) = told in
+    let less = c.if-used-bytes.true in
+    let same : c.in-Ok-Done.used ≡ n = omega (arith, used) in
+    subst (λ k. IsRefusedBy c.args.roots c.args.bytes.now (faults.Trailing k)) (sym same) (stopped_refused c.args.roots c.args.bytes.now (faults.Trailing n) (trailing_refused c.args.roots n c.args.bytes.now ends (omega (arith, less, same))))
+
+pub returns-else-used-bytes-clause-why : goal.returns-else-used-bytes-clause-why
+returns-else-used-bytes-clause-why c =
+    let q = c.in-Ok-Done.ensures.tells c.args.roots [] c.new-reader.ensures.begins in
+    c.finish-in-Ok-Done.ensures.why c.args.roots c.args.bytes.now q.1

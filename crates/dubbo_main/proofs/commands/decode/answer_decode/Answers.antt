@@ -7,5 +7,5 @@ returns-in-Ok c = answers_notation c.args.roots c.args.input.now (shape_of c.in-
     c.printed.ensures.status c.printed.ensures.text
 
 pub returns-in-Err : goal.returns-in-Err
-returns-in-Err c = answers_fault c.args.roots c.args.input.now c.in-Err.fault c.refused.result c.in-Err.ensures.refused
+returns-in-Err c = answers_fault c.args.roots c.args.input.now c.in-Err.fault c.refused.result c.in-Err.ensures.refused c.in-Err.ensures.why
     c.refused.ensures.cause c.refused.ensures.status c.refused.ensures.line

@@ -12,3 +12,9 @@ returns-in-Some-kind_of-clause-lexes c =
     let kind = c.in-Some-kind_of.kind in
     let starts : StartsChunks c.args.self.now.want kind c.args.code = subst (λ u. StartsChunks u kind c.args.code) (sym c.requires.any) (sym c.kind_of.ensures ∙ c.in-Some-kind_of.is) in
     c.go_through.ensures.lexes [] (record { small = λ i h. omega arith }) (leads_in c.args.self.now.want kind c.new.result.reader c.args.code c.args.piece.now c.new.ensures.reader c.requires.some c.requires.first starts)
+
+pub returns-in-Some-kind_of-clause-refuses : goal.returns-in-Some-kind_of-clause-refuses
+returns-in-Some-kind_of-clause-refuses c =
+    let kind = c.in-Some-kind_of.kind in
+    let starts : StartsChunks c.args.self.now.want kind c.args.code = subst (λ u. StartsChunks u kind c.args.code) (sym c.requires.any) (sym c.kind_of.ensures ∙ c.in-Some-kind_of.is) in
+    c.go_through.ensures.refuses [] (record { small = λ i h. omega arith }) (leads_in c.args.self.now.want kind c.new.result.reader c.args.code c.args.piece.now c.new.ensures.reader c.requires.some c.requires.first starts)

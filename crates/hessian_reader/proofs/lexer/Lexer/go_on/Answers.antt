@@ -1,6 +1,7 @@
 use Rattle.std.proofs.Common.{◌++◌, take, refl, sym, subst}
 use Rattle.hessian_reader.specs.Elements.{IsElement}
 use Rattle.hessian_reader.proofs.LexScalars.{whole_lexed, part_lexed, double_refused, other_refused}
+use Rattle.hessian_reader.proofs.LexRefusals.{double_byte, other_byte}
 use Rattle.hessian_reader.proofs.lexer.Lexer.go_on.Goals as goal
 
 pub returns-in-Whole-clause-within : goal.returns-in-Whole-clause-within
@@ -18,3 +19,9 @@ returns-in-Double-clause-lexes c = λ l. let d = (c.feed.ensures.double c.in-Dou
 
 pub returns-in-Other-clause-lexes : goal.returns-in-Other-clause-lexes
 returns-in-Other-clause-lexes c = λ l. let d = (c.feed.ensures.other c.in-Other.code).0 c.in-Other.is in other_refused c.args.self.now.want c.in-Other.code c.args.reader c.args.piece.now l d.0 d.1 d.2
+
+pub returns-in-Double-clause-refuses : goal.returns-in-Double-clause-refuses
+returns-in-Double-clause-refuses c = λ l. let d = (c.feed.ensures.double c.in-Double.code).0 c.in-Double.is in double_byte c.args.self.now.want c.in-Double.code c.args.reader c.args.piece.now l d.0 d.1 d.2
+
+pub returns-in-Other-clause-refuses : goal.returns-in-Other-clause-refuses
+returns-in-Other-clause-refuses c = λ l. let d = (c.feed.ensures.other c.in-Other.code).0 c.in-Other.is in other_byte c.args.self.now.want c.in-Other.code c.args.reader c.args.piece.now l d.0 d.1 d.2

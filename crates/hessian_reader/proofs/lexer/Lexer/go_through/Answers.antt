@@ -6,6 +6,7 @@ use Rattle.hessian_text.proofs.Answering.{take_bytes}
 use Rattle.hessian_reader.specs.Codes.{chunk_element}
 use Rattle.hessian_reader.specs.Elements.{IsElement}
 use Rattle.hessian_reader.proofs.LexChunks.{small_more, whole_lexed, more_lexed, no_code_lexed, no_item_lexed}
+use Rattle.hessian_reader.proofs.LexRefusals.{code_byte, item_byte}
 use Rattle.hessian_reader.proofs.lexer.Lexer.go_through.Goals as goal
 
 pub returns-in-More-clause-lexes : goal.returns-in-More-clause-lexes
@@ -37,3 +38,16 @@ returns-in-NoItem-clause-lexes c = λ came low leads.
     let told : Feeds c.args.chunks.reader c.args.piece.now c.feed.new.self (fed.NoItem n k) = subst (λ t. Feeds c.args.chunks.reader c.args.piece.now c.feed.new.self t) c.in-NoItem.is c.in_ok-feed.ensures in
     let small : AreBytes c.args.piece.now = record { small = λ i h. omega (arith, c.type_inv.piece i) } in
     no_item_lexed c.args.self.now.want c.args.chunks.reader c.feed.new.self came c.args.piece.now n k low small leads told.0 told.1 told.2
+
+pub returns-in-NoCode-clause-refuses : goal.returns-in-NoCode-clause-refuses
+returns-in-NoCode-clause-refuses c = λ came low leads.
+    let n = c.in-NoCode.place in
+    let told : Feeds c.args.chunks.reader c.args.piece.now c.feed.new.self (fed.NoCode n) = subst (λ t. Feeds c.args.chunks.reader c.args.piece.now c.feed.new.self t) c.in-NoCode.is c.in_ok-feed.ensures in
+    code_byte c.args.self.now.want c.args.chunks.reader c.feed.new.self came c.args.piece.now n leads told.0 told.1 told.2
+
+pub returns-in-NoItem-clause-refuses : goal.returns-in-NoItem-clause-refuses
+returns-in-NoItem-clause-refuses c = λ came low leads.
+    let n = c.in-NoItem.place in
+    let k = c.in-NoItem.begun in
+    let told : Feeds c.args.chunks.reader c.args.piece.now c.feed.new.self (fed.NoItem n k) = subst (λ t. Feeds c.args.chunks.reader c.args.piece.now c.feed.new.self t) c.in-NoItem.is c.in_ok-feed.ensures in
+    item_byte c.args.self.now.want c.args.chunks.reader c.feed.new.self came c.args.piece.now n k leads told.0 told.1 told.2

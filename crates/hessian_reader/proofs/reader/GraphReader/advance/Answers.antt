@@ -1,12 +1,12 @@
-use Rattle.std.proofs.Common.{◌≡◌, ◌+◌, ◌<◌, ◌≤◌, ◌-◌, ◌++◌, ◌∙◌, ℕ, List, [], false, true, drop, length, take, sym, ap, subst, refl, arith}
-use Rattle.std.proofs.lemmas.List.{length-take-le, length-drop}
-use Rattle.std.specs.Prelude.{Ok, Err, Some, None, IfSome}
+use Rattle.std.proofs.Common.{◌≡◌, ◌+◌, ◌≤◌, ◌-◌, ◌++◌, ◌∙◌, drop, length, take, ap, subst, arith}
+use Rattle.std.proofs.lemmas.List.{length-drop}
+use Rattle.std.specs.Prelude.{Ok, Err, IfSome}
 use Rattle.hessian_text.specs.Spelling.{AreBytes}
 use Rattle.hessian_text.proofs.Advancing.{rest_is}
 use Rattle.hessian_reader.specs.Views.{state_of}
-use Rattle.hessian_reader.specs.Reading.{TakesOne, GoesOn, Nexts}
+use Rattle.hessian_reader.specs.Reading.{TakesOne, GoesOn, Nexts, StopsIn}
 use Rattle.hessian_reader.proofs.OneWay.{bytes_both}
-use Rattle.hessian_reader.proofs.Feeding.{Stands, nexts_at, not_done_is, done_is, takes_behind, goes_behind, stuck_behind, done_follows, tells_done, not_ended, all_taken}
+use Rattle.hessian_reader.proofs.Feeding.{Stands, nexts_at, not_done_is, done_is, takes_behind, goes_behind, stuck_behind, stops_behind, done_follows, tells_done, not_ended, all_taken}
 use Rattle.hessian_reader.proofs.reader.GraphReader.advance.Goals as goal
 
 pub loop-taken-preserved : goal.loop-taken-preserved
@@ -84,3 +84,16 @@ returns-else-is_done-2-clause-tells c = λ roots fed count small f.
     let d = not_done_is c.is_done-2.result (state_of r.work) c.is_done-2.ensures c.if-is_done-2.false in
     let g = all_taken r roots fed piece c.loop-taken.taken c.loop-taken-test.false st in
     (not_ended r roots (fed ++ piece) g (bytes_both fed piece small small') d, g)
+
+pub returns-in-Err-clause-why : goal.returns-in-Err-clause-why
+returns-in-Err-clause-why c = λ roots fed count small f some.
+    let r = c.loop-taken.self in
+    let n = c.loop-taken.taken in
+    let piece = c.args.piece.now in
+    let st = c.loop-taken.invariant.stands roots fed count small f in
+    let small' : AreBytes piece = record { small = λ i h. omega (arith, c.type_inv.piece i) } in
+    let d = not_done_is c.is_done.result (state_of r.work) c.is_done.ensures c.if-is_done.false in
+    let same = c.loop-taken.invariant.fed in
+    let place : r.fed + n ≡ length fed + n = omega (arith, same, count) in
+    let stops : StopsIn r (r.fed + n) (drop n piece) c.in-Err.fault = subst (λ p. StopsIn r (r.fed + n) p c.in-Err.fault) (rest_is n piece) (c.in-Err.ensures.why some) in
+    stops_behind r roots fed piece n (r.fed + n) c.in-Err.fault st c.loop-taken.invariant.low place small small' d stops

@@ -1,6 +1,7 @@
-use Rattle.std.proofs.Common.{◌≡◌, ◌∙◌, ◌++◌, List, ℕ, sym, arith}
+use Rattle.std.proofs.Common.{◌∙◌, arith}
 use Rattle.hessian_text.specs.Spelling.{AreBytes}
 use Rattle.hessian_reader.proofs.Feeding.{never_later, read_on}
+use Rattle.hessian_reader.proofs.Refusals.{stopped_later}
 use Rattle.hessian_reader.proofs.reader.GraphReader.feed.Goals as goal
 
 pub returns-in-Some-clause-refused : goal.returns-in-Some-clause-refused
@@ -18,3 +19,11 @@ returns-in-Ok-clause-tells c = λ roots fed read.
 pub returns-in-Err-clause-refused : goal.returns-in-Err-clause-refused
 returns-in-Err-clause-refused c = λ roots fed read some.
     c.in-Err.ensures.refused roots fed read.counted read.bytes (read.follows c.in_default.is) some
+
+pub returns-in-Some-clause-why : goal.returns-in-Some-clause-why
+returns-in-Some-clause-why c = λ roots fed read some.
+    stopped_later roots fed c.args.piece.now c.in-Some.fault (read.stopped c.in-Some.fault c.in-Some.is some)
+
+pub returns-in-Err-clause-why : goal.returns-in-Err-clause-why
+returns-in-Err-clause-why c = λ roots fed read some.
+    c.in-Err.ensures.why roots fed read.counted read.bytes (read.follows c.in_default.is) some

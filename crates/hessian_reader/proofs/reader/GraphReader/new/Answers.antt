@@ -1,4 +1,4 @@
-use Rattle.std.proofs.Common.{rules, refl, sym, subst, ◌∙◌, [], None}
+use Rattle.std.proofs.Common.{rules, refl, sym, subst, ◌∙◌, []}
 use Rattle.hessian_reader.specs.declared.lexer.Inside.{Inside}
 use Rattle.hessian_reader.specs.Lexing.{Holds}
 use Rattle.hessian_reader.specs.States.{State, start}
@@ -23,4 +23,5 @@ returns-clause-begins c = record {
     going = λ _. refl;
   };
   refused = λ f e. absurd (cc);
+  stopped = λ f e. absurd (cc);
 }
