@@ -41,8 +41,8 @@ impl Graph {
         Ok(Graph { parts })
     }
 
-    /// The graph of parts that are known to be sound.
-    pub(crate) fn from_sound(parts: Parts) -> Graph
+    /// The graph of parts that are known to be sound, with no second look.
+    pub fn from_sound(parts: Parts) -> Graph
         requires sound { IsSound parts }
         requires few { length parts.nodes < 2 ^ 32 }
         ensures { result ≡ parts }
