@@ -1,21 +1,26 @@
 -- From token to token.
 use Rattle.std.proofs.Common.{◌≡◌, ℕ, zero, suc, ◌+◌, ◌-◌, ◌<◌, ◌≤◌, List, [], ◌∷◌, ◌++◌, length, get_or, take, drop, refl, ap, sym, ◌∙◌, subst, arith, drop-cons}
-use Rattle.std.specs.Prelude.{Ok, Err}
+use Rattle.std.specs.Prelude.{Ok, Err, nat_eq, if◌then◌else◌, false}
 use Rattle.graph_notation.specs.declared.element.Element.{Element}
+use Rattle.graph_notation.specs.declared.element.Element.TheVariants.{Sign}
+use Rattle.graph_notation.specs.declared.element.Mark.{Mark}
+use Rattle.graph_notation.specs.declared.element.Mark.TheVariants as marks
 use Rattle.graph_notation.specs.declared.frame.Cause.TheVariants.{Bad, Unknown, TooMany}
 use Rattle.graph_notation.specs.declared.stop.Stop.{Stop}
 use Rattle.graph_notation.specs.declared.stop.Stop.TheVariants.{Refused, NoMemory}
 use Rattle.graph_notation.specs.declared.fault.NotationFault.TheVariants.{BadNotation, OutOfMemory}
-use Rattle.graph_notation.specs.Tokens.{Token, IsToken, Cut}
+use Rattle.graph_notation.specs.Tokens.{Token, IsToken, Cut, is_word_byte}
 use Rattle.graph_notation.specs.Tokens.Cut.{none, one}
-use Rattle.graph_notation.specs.Lexing.{token_length}
-use Rattle.graph_notation.specs.Elements.{Reads}
+use Rattle.graph_notation.specs.Lexing.{token_length, word_run, closing}
+use Rattle.graph_notation.specs.Elements.{Reads, mark_byte}
+use Rattle.graph_notation.specs.Elements.Reads.{sign}
 use Rattle.graph_notation.specs.Notation.{ReadAs}
 use Rattle.graph_notation.specs.Machine.{State, start, step, run, and_then}
 use Rattle.graph_notation.specs.Progress.{SoFar, TokenAt, Taken, fault_of, ReadsOn}
 use Rattle.graph_notation.specs.Progress.Untaken.{unread, bad, unknown, too_many, no_memory}
 use Rattle.graph_notation.specs.View.{Steps}
 use Rattle.graph_notation.proofs.Nexts.{stepped}
+use Rattle.graph_notation.proofs.Cutting.{first_byte}
 use Rattle.graph_notation.proofs.Tokens.{first_token, length_is, some_token}
 
 -- a token more
@@ -103,3 +108,36 @@ token_unread bound text piece at end s t x h = (end, unread x.front (λ e r. h e
 
 pub no_room : (bound : ℕ) (text : List ℕ) (at end : ℕ) (s t : State) → ReadsOn bound text at s t (Err OutOfMemory)
 no_room bound text at end s t = (end, no_memory)
+
+-- a mark is a token by itself
+mark_alone : (m : Mark) (x y : ℕ) → (if is_word_byte (mark_byte m) then x else (if nat_eq (mark_byte m) 0x22 then y else 1)) ≡ 1
+mark_alone marks.BeginList x y = refl
+mark_alone marks.EndList x y = refl
+mark_alone marks.BeginMap x y = refl
+mark_alone marks.EndMap x y = refl
+mark_alone marks.BeginFields x y = refl
+mark_alone marks.EndFields x y = refl
+mark_alone marks.Comma x y = refl
+mark_alone marks.Colon x y = refl
+mark_alone marks.Named x y = refl
+
+mark_length : (text : List ℕ) (at : ℕ) (m : Mark) → at < length text → get_or text at 0 ≡ mark_byte m → token_length (drop at text) ≡ 1
+mark_length text at m h e =
+    first_byte text at h
+    ∙ ap (λ b. if is_word_byte b then suc (word_run (drop (at + 1) text)) else (if nat_eq b 0x22 then suc (closing false (drop (at + 1) text)) else 1)) e
+    ∙ mark_alone m (suc (word_run (drop (at + 1) text))) (suc (closing false (drop (at + 1) text)))
+
+mark_slice : (text : List ℕ) (at : ℕ) (m : Mark) → at < length text → get_or text at 0 ≡ mark_byte m → Slice text at (at + 1) (take (at + 1 - at) (drop at text))
+mark_slice text at m h e = slice_at text at (at + 1) h (ap (λ n. at + n) (sym (mark_length text at m h e)))
+
+mark_reads : (text : List ℕ) (at : ℕ) (m : Mark) → at < length text → get_or text at 0 ≡ mark_byte m → Reads (take (at + 1 - at) (drop at text)) (Sign m)
+mark_reads text at m h e =
+    let n : at + 1 - at ≡ 1 = omega arith in
+    let piece : take (at + 1 - at) (drop at text) ≡ mark_byte m ∷ [] = ap (λ k. take k (drop at text)) n ∙ ap (take 1) (drop-cons text at 0 h) ∙ ap (λ b. b ∷ []) e in
+    subst (λ t. Reads t (Sign m)) (sym piece) (sign m)
+
+pub mark_read : (bound : ℕ) (text : List ℕ) (at : ℕ) (m : Mark) (s t : State) → at < length text → get_or text at 0 ≡ mark_byte m → step bound s (Sign m) ≡ Ok t → ReadsOn bound text at s t (Ok (at + 1))
+mark_read bound text at m s t h e k = token_read bound text (take (at + 1 - at) (drop at text)) at (at + 1) s t (Sign m) (mark_slice text at m h e) (omega (arith, h)) (mark_reads text at m h e) k
+
+pub mark_refused : (bound : ℕ) (text : List ℕ) (at : ℕ) (m : Mark) (s t : State) (stop : Stop) → at < length text → get_or text at 0 ≡ mark_byte m → Steps (Err stop) t (step bound s (Sign m)) → ReadsOn bound text at s t (Err (fault_of stop at))
+mark_refused bound text at m s t stop h e k = token_refused bound text (take (at + 1 - at) (drop at text)) at (at + 1) s t (Sign m) stop (mark_slice text at m h e) (mark_reads text at m h e) k

@@ -1,6 +1,6 @@
 -- Nodes are put together from what was read.
 use Rattle.std.proofs.Common.{◌≡◌, ℕ, suc, ◌+◌, ◌<◌, ◌≤◌, ◌^◌, List, [], ◌∷◌, ◌++◌, length, get_or, map, reverse, refl, ap, sym, ◌∙◌, subst, arith, inl, inr, append_assoc, length-append}
-use Rattle.std.specs.Prelude.{◌-◌, Option, Some, None, Result, Ok, Err, IfOk}
+use Rattle.std.specs.Prelude.{◌-◌, Option, Some, None}
 use Rattle.std.proofs.lemmas.Bool.{cases_eq}
 use Rattle.std.proofs.lemmas.List.{append-nil, reverse-append, map-append, length-map, get_or_append_left}
 use Rattle.hessian_graph.specs.declared.value.Value.{Value}
@@ -10,20 +10,22 @@ use Rattle.hessian_graph.specs.declared.node.Node.TheVariants as nodes
 use Rattle.hessian_graph.specs.declared.node.Class.{Class}
 use Rattle.hessian_graph.specs.Shape.{Shape, shape_of, Text, ListKind, MapKind, ObjectKind, NodeShape, node_shape, type_of, kind_of, values_of, alternately, no_class, no_vertex}
 use Rattle.hessian_graph.specs.Tables.{NumberBelow}
-use Rattle.hessian_graph.specs.Moving.{NamesThere, AllThere, ClassFits}
+use Rattle.hessian_graph.specs.Moving.{NamesThere, AllThere}
 use Rattle.graph_notation.specs.declared.frame.Frame.{Frame}
 use Rattle.graph_notation.specs.Machine.{shown, kind_of as frame_kind}
 use Rattle.graph_notation.specs.Built.{Grows, AreBuilt}
+use Rattle.graph_notation.specs.declared.building.Tables.{Tables}
+use Rattle.graph_notation.specs.Naming.{NamesFit, Uses, NamesTaken, HasRoom}
+use Rattle.graph_notation.proofs.Naming.{none_used, uses_more, in_use}
+use Rattle.hessian_graph.specs.InUse.{InOrderOfUse}
 use Rattle.graph_notation.specs.Whole.{AllGood, Fits, IsEven}
 use Rattle.graph_notation.specs.declared.element.Element.{Element}
 use Rattle.graph_notation.specs.Forms.{SpellsGraph}
 use Rattle.hessian_graph.specs.declared.parts.Parts.{Parts}
-use Rattle.hessian_graph.specs.declared.parts.PartsFault.{PartsFault}
-use Rattle.hessian_graph.specs.Faults.{IsSound, faults}
+use Rattle.hessian_graph.specs.Faults.{IsSound}
 use Rattle.hessian_graph.specs.Work.{IsClosed}
-use Rattle.hessian_graph.specs.Canon.{IsCanon}
 use Rattle.hessian_graph.proofs.Rebuilding.{sound_of}
-use Rattle.graph_notation.proofs.Forming.{graph_good, closed, own_form}
+use Rattle.graph_notation.proofs.Forming.{graph_good, closed}
 use Rattle.std.proofs.lemmas.List.{reverse-reverse}
 
 pub pairs_more : (all left rest : List Value) (pairs : List Pair) (p : Pair) → all ≡ left ++ alternately (reverse pairs) → left ≡ rest ++ (p.key ∷ p.value ∷ []) → all ≡ rest ++ alternately (reverse (pairs ++ p ∷ []))
@@ -35,9 +37,6 @@ pairs_whole all left pairs e h = sym (e ∙ ap (λ x. x ++ alternately (reverse 
 last_row : {N : Type 0} (rows : List N) (row none : N) → get_or (rows ++ row ∷ []) (length rows) none ≡ row
 last_row [] row none = refl
 last_row (x ∷ xs) row none = last_row xs row none
-
-pub last_type : (old new : List Text) (name : Text) → new ≡ old ++ name ∷ [] → get_or new (length old) [] ≡ name
-last_type old new name e = ap (λ x. get_or x (length old) []) e ∙ last_row old name []
 
 -- names stay where tables grow
 type_stays : (types more : List Text) (n : Option ℕ) → NumberBelow (length types) n → type_of (types ++ more) n ≡ type_of types n
@@ -89,41 +88,36 @@ built_more types types' classes classes' ns shapes n shape b t c is there =
       few_classes = omega (arith, few_classes, one_class, long, long_classes);
     }
 
-pub grows_none : {N : Type 0} (rows : List N) → Grows rows rows
-grows_none rows = record { more = []; is = sym (append-nil rows); one = omega arith }
-
-pub grows_one : {N : Type 0} (old new : List N) (row : N) → new ≡ old ++ row ∷ [] → Grows old new
-grows_one old new row e = record { more = row ∷ []; is = e; one = omega arith }
-
-pub last_class : (old new : List Class) (row : Class) (n : ℕ) → new ≡ old ++ row ∷ [] → n ≡ length old → get_or new n no_class ≡ row
-last_class old new row n e h = ap (λ x. get_or x n no_class) e ∙ ap (λ k. get_or (old ++ row ∷ []) k no_class) h ∙ last_row old row no_class
-
-pub class_fits : (old new : List Class) (row : Class) (n count : ℕ) → new ≡ old ++ row ∷ [] → n ≡ length old → count ≡ length row.fields → ClassFits new n count
-class_fits old new row n count e h c =
-    let long : length new ≡ length old + 1 = ap length e ∙ length-append old (row ∷ []) in
-    record { below = omega (arith, long, h); count_is = c ∙ ap (λ (x : Class). length x.fields) (sym (last_class old new row n e h)) }
-
 -- the nodes that are left, one after another
-pub record Building (all left : List Frame) (types : List Text) (classes : List Class) (built : List Node) : Type 0 where
+pub record Building (all left : List Frame) (t : Tables) (built : List Node) : Type 0 where
   pub shapes : List NodeShape
   pub whole : map shown all ≡ shapes ++ map shown (reverse left)
-  pub are : AreBuilt types classes built shapes
+  pub are : AreBuilt t.types.texts.items t.classes.rows.items built shapes
+  pub fit : NamesFit t
+  pub uses : Uses (length t.types.texts.items) (length t.classes.rows.items) built
 
-pub none_built : (all left : List Frame) → left ≡ reverse all → Building all left [] [] []
-none_built all left e = record {
+none_are : (t : Tables) → t.types.texts.items ≡ [] → t.classes.rows.items ≡ [] → AreBuilt t.types.texts.items t.classes.rows.items [] []
+none_are t n m = record { shapes_are = refl; there = λ k h. absurd (omega arith); few_types = (let e = ap length n in omega (arith, e)); few_classes = (let e = ap length m in omega (arith, e)) }
+
+pub none_built : (all left : List Frame) (t : Tables) → left ≡ reverse all → NamesFit t → t.types.texts.items ≡ [] → t.classes.rows.items ≡ [] → Building all left t []
+none_built all left t e fit n m = record {
   shapes = [];
   whole = ap (map shown) (sym (reverse-reverse all) ∙ ap reverse (sym e));
-  are = record { shapes_are = refl; there = λ k h. absurd (omega arith); few_types = omega arith; few_classes = omega arith };
+  are = none_are t n m;
+  fit = fit;
+  uses = subst (λ x. Uses x (length t.classes.rows.items) []) (ap length (sym n)) (subst (λ y. Uses 0 y []) (ap length (sym m)) none_used);
 }
 
 left_shapes : (left rest : List Frame) (f : Frame) → left ≡ rest ++ f ∷ [] → map shown (reverse left) ≡ shown f ∷ map shown (reverse rest)
 left_shapes left rest f e = ap (λ x. map shown (reverse x)) e ∙ ap (map shown) (reverse-append rest (f ∷ []))
 
-pub one_built : (all left rest : List Frame) (f : Frame) (types types' : List Text) (classes classes' : List Class) (built : List Node) (n : Node) → Building all left types classes built → left ≡ rest ++ f ∷ [] → Grows types types' → Grows classes classes' → node_shape types' classes' n ≡ shown f → NamesThere types' classes' n → Building all rest types' classes' (built ++ n ∷ [])
-one_built all left rest f types types' classes classes' built n b e t c is there = record {
+pub one_built : (all left rest : List Frame) (f : Frame) (t u : Tables) (built : List Node) (n : Node) → Building all left t built → left ≡ rest ++ f ∷ [] → node_shape u.types.texts.items u.classes.rows.items n ≡ shown f → NamesTaken t u n → Building all rest u (built ++ n ∷ [])
+one_built all left rest f t u built n b e is names = record {
   shapes = b.shapes ++ shown f ∷ [];
   whole = b.whole ∙ ap (λ x. b.shapes ++ x) (left_shapes left rest f e) ∙ sym (append_assoc b.shapes (shown f ∷ []) (map shown (reverse rest)));
-  are = built_more types types' classes classes' built b.shapes n (shown f) b.are t c is there;
+  are = built_more t.types.texts.items u.types.texts.items t.classes.rows.items u.classes.rows.items built b.shapes n (shown f) b.are names.types names.classes is names.there;
+  fit = names.fit;
+  uses = uses_more t u built n b.uses names;
 }
 
 -- the next node has as many values as its kind takes
@@ -131,19 +125,33 @@ good_next : (count : ℕ) (before after : List NodeShape) (x : NodeShape) → Al
 good_next count [] after x a = (a.0).fits
 good_next count (y ∷ ys) after x a = good_next count ys after x a.1
 
-pub next_fits : (count : ℕ) (all left rest : List Frame) (f : Frame) (types : List Text) (classes : List Class) (built : List Node) → AllGood count (map shown all) → Building all left types classes built → left ≡ rest ++ f ∷ [] → Fits (frame_kind f.head f.names) (length f.values)
-next_fits count all left rest f types classes built a b e = good_next count b.shapes (map shown (reverse rest)) (shown f) (subst (AllGood count) (b.whole ∙ ap (λ x. b.shapes ++ x) (left_shapes left rest f e)) a)
+pub next_fits : (count : ℕ) (all left rest : List Frame) (f : Frame) (t : Tables) (built : List Node) → AllGood count (map shown all) → Building all left t built → left ≡ rest ++ f ∷ [] → Fits (frame_kind f.head f.names) (length f.values)
+next_fits count all left rest f t built a b e = good_next count b.shapes (map shown (reverse rest)) (shown f) (subst (AllGood count) (b.whole ∙ ap (λ x. b.shapes ++ x) (left_shapes left rest f e)) a)
 
-pub next_room : (all left rest : List Frame) (f : Frame) (types : List Text) (classes : List Class) (built : List Node) → length all < 2 ^ 32 → Building all left types classes built → (length types < 2 ^ 32) × (length classes < 2 ^ 32)
-next_room all left rest f types classes built few b =
+pub next_room : (all left : List Frame) (t : Tables) (built : List Node) → length all < 2 ^ 32 → Building all left t built → HasRoom t
+next_room all left t built few b =
     let many : length all ≡ length b.shapes + length (map shown (reverse left)) = sym (length-map all shown) ∙ ap length b.whole ∙ length-append b.shapes (map shown (reverse left)) in
-    let same : length built ≡ length b.shapes = sym (length-map built (node_shape types classes)) ∙ ap length (b.are).shapes_are in
-    let t = (b.are).few_types in
+    let same : length built ≡ length b.shapes = sym (length-map built (node_shape t.types.texts.items t.classes.rows.items)) ∙ ap length (b.are).shapes_are in
+    let n = (b.are).few_types in
     let k = (b.are).few_classes in
-    (omega (arith, many, same, t), omega (arith, many, same, k))
+    record { types = omega (arith, many, same, n); classes = omega (arith, many, same, k) }
 
-pub all_built : (all left : List Frame) (types : List Text) (classes : List Class) (built : List Node) → Building all left types classes built → left ≡ [] → map (node_shape types classes) built ≡ map shown all
-all_built all left types classes built b e = (b.are).shapes_are ∙ sym (b.whole ∙ ap (λ x. b.shapes ++ map shown (reverse x)) e ∙ append-nil b.shapes)
+pub all_built : (all left : List Frame) (t : Tables) (built : List Node) → Building all left t built → left ≡ [] → map (node_shape t.types.texts.items t.classes.rows.items) built ≡ map shown all
+all_built all left t built b e = (b.are).shapes_are ∙ sym (b.whole ∙ ap (λ x. b.shapes ++ map shown (reverse x)) e ∙ append-nil b.shapes)
+
+parts_with : List Value → List Node → Tables → Parts
+parts_with roots nodes t = record { roots = roots; nodes = nodes; types = t.types.texts.items; classes = t.classes.rows.items }
+
+-- the tables have the names of all nodes
+pub tables_used : (all left : List Frame) (t : Tables) (built nodes : List Node) (roots : List Value) (p : Parts) → Building all left t built → nodes ≡ built → p ≡ record { roots = roots; nodes = nodes; types = t.types.texts.items; classes = t.classes.rows.items } → InOrderOfUse p
+unfolding parts_with
+tables_used all left t built nodes roots p b n e = subst InOrderOfUse (sym (e ∙ ap (λ (ns : List Node). parts_with roots ns t) n)) (in_use t roots built b.fit b.uses)
+
+-- as many nodes as were read
+pub as_many : (p : Parts) (all : List Frame) (roots : List Value) → shape_of p ≡ record { roots = roots; nodes = map shown all } → length all < 2 ^ 32 → length p.nodes < 2 ^ 32
+as_many p all roots e few =
+    let n : length p.nodes ≡ length all = sym (length-map p.nodes (node_shape p.types p.classes)) ∙ ap (λ (g : Shape). length g.nodes) e ∙ length-map all shown in
+    omega (arith, n, few)
 
 pub even_less : (left rest : List Value) (p : Pair) → left ≡ rest ++ (p.key ∷ p.value ∷ []) → IsEven (length left) → IsEven (length rest)
 even_less left rest p e h =
@@ -158,10 +166,3 @@ is_sound p all roots es s e there few =
     let good = graph_good g es s in
     let n : length (map shown all) ≡ length all = length-map all shown in
     sound_of p (subst IsClosed (sym e) (closed g (omega (arith, n)) good.0 good.1)) there
-
-pub no_fault : (p : Parts) (f : PartsFault) (rest : List PartsFault) → IsSound p → faults p ≡ f ∷ rest → ⊥
-no_fault p f rest s e = let bad : [] ≡ f ∷ rest = sym s ∙ e in cc
-
-pub shape_answer : {E : Type 0} (r : Result Parts E) (built g : Shape) (es : List Element) → IfOk r (λ form. IsCanon built (shape_of form)) → built ≡ g → SpellsGraph g es → IfOk r (λ form. shape_of form ≡ g)
-shape_answer (Ok form) built g es c e s = own_form g (shape_of form) es s (subst (λ x. IsCanon x (shape_of form)) e c)
-shape_answer (Err x) built g es c e s = tt

@@ -133,24 +133,21 @@ begun_long {g} {nodes} {begun} {stack} b =
     let long = length-take-le begun g.nodes few in
     sym (filled_long g nodes stack) ∙ ap length b.whole ∙ long
 
-pub begun_none : (g : Shape) → IsCanon g g → Begun g [] 0 [] g.roots
-begun_none g canon = record { few = omega arith; whole = refl; within = λ k d l. absurd (omega arith); visit = visits_upto g canon }
+pub begun_none : (g : Shape) → Begun g [] 0 [] g.roots
+begun_none g = record { few = omega arith; whole = refl; within = λ k d l. absurd (omega arith); visit = visits_upto g }
 
 -- a value that is no node, or a node that has begun
 pub begun_leaf : {g : Shape} {nodes : List NodeShape} {begun : ℕ} {stack : List Step} {next : List Value} (v : Value) → ((k : ℕ) → v ≡ values.Node k → k < begun) → Begun g nodes begun stack (v ∷ next) → Begun g nodes begun stack next
-begun_leaf {g} {nodes} {begun} {stack} {next} v h b = record { few = b.few; whole = b.whole; within = b.within; visit = by_name (node_of v) refl }
+begun_leaf {g} {nodes} {begun} {stack} {next} v h b = record { few = b.few; whole = b.whole; within = b.within; visit = λ c. by_name (b.visit c) (node_of v) refl }
   where
-    by_name : (o : Option ℕ) → node_of v ≡ o → Visit g (upto begun) next (upto (length g.nodes))
-    by_name None e = after_plain g e b.visit
-    by_name (Some k) e = after_again g k k e (place_upto begun k (h k (is_node v k e))) b.visit
+    by_name : Visit g (upto begun) (v ∷ next) (upto (length g.nodes)) → (o : Option ℕ) → node_of v ≡ o → Visit g (upto begun) next (upto (length g.nodes))
+    by_name l None e = after_plain g e l
+    by_name l (Some k) e = after_again g k k e (place_upto begun k (h k (is_node v k e))) l
 
 -- a node begins
-pub begun_node : {g : Shape} {nodes : List NodeShape} {begun : ℕ} {stack : List Step} (next : List Value) (number : ℕ) → begun ≤ number → Begun g nodes begun stack (values.Node number ∷ next) → Begun g (nodes ++ no_node ∷ []) (suc begun) (record { node = number; at = 0 } ∷ stack) (values_at g number ++ next)
-begun_node {g} {nodes} {begun} {stack} next number low b =
-    let f = first_met g begun number next b.visit low in
+pub begun_node : {g : Shape} {nodes : List NodeShape} {begun : ℕ} {stack : List Step} (next : List Value) (number : ℕ) → number ≡ begun → begun < length g.nodes → Begun g nodes begun stack (values.Node number ∷ next) → Begun g (nodes ++ no_node ∷ []) (suc begun) (record { node = number; at = 0 } ∷ stack) (values_at g number ++ next)
+begun_node {g} {nodes} {begun} {stack} next number is room b =
     let long : length nodes ≡ begun = begun_long b in
-    let is : number ≡ begun = f.is in
-    let room = f.room in
     let node : NodeShape = get_or g.nodes number no_node in
     let there : set (nodes ++ no_node ∷ []) number node ≡ nodes ++ node ∷ [] = ap (λ i. set (nodes ++ no_node ∷ []) i node) (is ∙ sym long) ∙ set_last nodes no_node node in
     record {
@@ -162,7 +159,7 @@ begun_node {g} {nodes} {begun} {stack} next number low b =
           ∙ ap (λ i. take begun g.nodes ++ get_or g.nodes i no_node ∷ []) is
           ∙ sym (take-suc g.nodes begun no_node room);
       within = all_cons (record { node = number; at = 0 }) stack (record { node = omega (arith, is); at = omega arith }) (all_more stack b.within);
-      visit = f.visit;
+      visit = λ c. (first_met g begun number next (b.visit c) (omega (arith, is))).visit;
     }
 
 -- a node ends
@@ -171,7 +168,7 @@ begun_end {g} {nodes} {begun} next t ts past b = record {
   few = b.few;
   whole = b.whole;
   within = All-tail (Within g begun) t ts b.within;
-  visit = subst (λ vs. Visit g (upto begun) (vs ++ next) (upto (length g.nodes))) (drop_all t.at (values_at g t.node) past) b.visit;
+  visit = λ c. subst (λ vs. Visit g (upto begun) (vs ++ next) (upto (length g.nodes))) (drop_all t.at (values_at g t.node) past) (b.visit c);
 }
 
 -- a node goes on
@@ -180,16 +177,19 @@ begun_further {g} {nodes} {begun} next t ts v h e b = record {
   few = b.few;
   whole = b.whole;
   within = all_cons (record { node = t.node; at = t.at + 1 }) ts (record { node = (front_within t ts b.within).node; at = omega (arith, h) }) (All-tail (Within g begun) t ts b.within);
-  visit = subst (λ vs. Visit g (upto begun) (vs ++ next) (upto (length g.nodes))) (cut_at (values_at g t.node) t.at v h e) b.visit;
+  visit = λ c. subst (λ vs. Visit g (upto begun) (vs ++ next) (upto (length g.nodes))) (cut_at (values_at g t.node) t.at v h e) (b.visit c);
 }
 
 -- the roots go on
 pub begun_root : {g : Shape} {nodes : List NodeShape} {begun : ℕ} (roots : ℕ) (v : Value) → roots < length g.roots → v ≡ get_or g.roots roots values.Null → Begun g nodes begun [] (drop roots g.roots) → Begun g nodes begun [] (v ∷ drop (roots + 1) g.roots)
-begun_root {g} {nodes} {begun} roots v h e b = record { few = b.few; whole = b.whole; within = b.within; visit = subst (λ vs. Visit g (upto begun) vs (upto (length g.nodes))) (cut_at g.roots roots v h e) b.visit }
+begun_root {g} {nodes} {begun} roots v h e b = record { few = b.few; whole = b.whole; within = b.within; visit = λ c. subst (λ vs. Visit g (upto begun) vs (upto (length g.nodes))) (cut_at g.roots roots v h e) (b.visit c) }
 
 -- all have begun
-pub begun_all : {g : Shape} {nodes : List NodeShape} {begun : ℕ} (roots : ℕ) → length g.roots ≤ roots → Begun g nodes begun [] (drop roots g.roots) → nodes ≡ g.nodes
-begun_all {g} {nodes} {begun} roots past b =
-    let visit : Visit g (upto begun) [] (upto (length g.nodes)) = subst (λ vs. Visit g (upto begun) vs (upto (length g.nodes))) (drop_all roots g.roots past) b.visit in
-    let same : begun ≡ length g.nodes = sym (upto_long begun) ∙ ap length (after_done g visit) ∙ upto_long (length g.nodes) in
-    b.whole ∙ take_all begun g.nodes (omega (arith, same))
+pub begun_all : {g : Shape} {nodes : List NodeShape} {begun : ℕ} {next : List Value} → length g.nodes ≤ begun → Begun g nodes begun [] next → nodes ≡ g.nodes
+begun_all {g} {nodes} {begun} {next} all b = b.whole ∙ take_all begun g.nodes all
+
+-- behind the roots of a canonical form all have begun
+pub begun_last : {g : Shape} {nodes : List NodeShape} {begun : ℕ} (roots : ℕ) → length g.roots ≤ roots → Begun g nodes begun [] (drop roots g.roots) → IsCanon g g → begun ≡ length g.nodes
+begun_last {g} {nodes} {begun} roots past b c =
+    let visit : Visit g (upto begun) [] (upto (length g.nodes)) = subst (λ vs. Visit g (upto begun) vs (upto (length g.nodes))) (drop_all roots g.roots past) (b.visit c) in
+    sym (upto_long begun) ∙ ap length (after_done g visit) ∙ upto_long (length g.nodes)

@@ -8,9 +8,13 @@ pub mod Cutting
 pub mod Tokens
 pub mod Decimals
 pub mod Digits
+pub mod PlainRuns
+pub mod NibbleTable
+pub mod SmallNumbers
 pub mod Readings
 pub mod Forming
 pub mod Advance
+pub mod Naming
 pub mod Assembling
 pub mod Living
 pub mod Refusing

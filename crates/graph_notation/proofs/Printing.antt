@@ -20,19 +20,21 @@ use Rattle.hessian_graph.specs.Faults.{IsSound}
 use Rattle.std.proofs.Math.Nat.{div-add-mod}
 use Rattle.graph_notation.specs.declared.element.Mark.TheVariants.{Colon}
 use Rattle.graph_notation.specs.declared.element.Element.TheVariants.{Sign}
+use Rattle.graph_notation.specs.declared.press.Press.{Press}
 use Rattle.graph_notation.specs.declared.press.Step.{Step}
 use Rattle.graph_notation.specs.declared.frame.Frame.{Frame}
 use Rattle.graph_notation.specs.declared.frame.Place.{Place}
 use Rattle.graph_notation.specs.declared.frame.Place.TheVariants as places
 use Rattle.graph_notation.specs.Forms.{SpellsGraph}
-use Rattle.graph_notation.specs.Notation.{IsPrinted}
+use Rattle.graph_notation.specs.Notation.{IsPrinted, PrintsForm}
 use Rattle.graph_notation.specs.Machine.{State, start, run, is_whole, may_end, graph_of, fed}
 use Rattle.graph_notation.specs.Whole.{Fits}
-use Rattle.graph_notation.specs.Pressing.{Prints, Stands, Begun, PressedOn, AwaitsOn, CanPrint, element_of, head_of, end_of, comma, before, is_odd, frame_at, under_at, count_at, to_come, part_of, unbegun, on_stack}
+use Rattle.graph_notation.specs.Pressing.{Prints, Stands, Begun, PressedOn, AwaitsOn, CanPrint, AreCanonical, element_of, head_of, end_of, comma, before, is_odd, frame_at, under_at, count_at, to_come, part_of, unbegun, on_stack, work}
 use Rattle.graph_notation.proofs.Stages.{at, IsEnd}
 use Rattle.graph_notation.proofs.Exact.{spelled_where_read}
+use Rattle.graph_notation.proofs.Forming.{is_canonical}
 use Rattle.graph_notation.proofs.Repeating.{forms_of}
-use Rattle.graph_notation.proofs.Begun.{begun_none, begun_leaf, begun_node, begun_end, begun_further, begun_root, begun_all, begun_long, first_met, top_within}
+use Rattle.graph_notation.proofs.Begun.{begun_none, begun_leaf, begun_node, begun_end, begun_further, begun_root, begun_all, begun_last, begun_long, first_met, top_within}
 use Rattle.graph_notation.proofs.Pressings.{nothing_read, read_on, asked, NamesFor, WholeAt, leaf_goes, node_goes, whole_goes}
 
 -- a node of sound parts has as many values as its kind takes
@@ -69,11 +71,11 @@ stands_after : (n : ℕ) → 0 < n → Stands n places.After
 stands_after n h = record { none = λ e. absurd (omega (arith, h, e)); some = λ l. refl }
 
 -- nothing is printed
-pub pressed_none : (g : Shape) → IsCanon g g → PressedOn g [] 0 0 []
-pressed_none g canon = record {
+pub pressed_none : (g : Shape) → PressedOn g [] 0 0 []
+pressed_none g = record {
   nodes = [];
   place = places.Start;
-  begins = begun_none g canon;
+  begins = begun_none g;
   counted = tt;
   stands = record { none = λ e. refl; some = λ l. absurd (omega (arith, l)) };
   read = nothing_read (2 ^ 32);
@@ -128,17 +130,14 @@ pressed_leaf g old new begun roots ts v low a w =
     }
 
 -- a node is begun
-pub pressed_node : (g : Shape) (old new : List ℕ) (begun roots : ℕ) (ts : List Step) (number : ℕ) → length g.nodes < 2 ^ 32 → begun ≤ number → AwaitsOn g (values.Node number) old begun roots ts → Prints old (head_of (kind_at g number)) new → PressedOn g new (begun + 1) roots (record { node = number; at = 0 } ∷ ts)
-pressed_node g old new begun roots ts number few low a w =
+pub pressed_node : (g : Shape) (old new : List ℕ) (begun roots : ℕ) (ts : List Step) (number : ℕ) → length g.nodes < 2 ^ 32 → number ≡ begun → begun < length g.nodes → AwaitsOn g (values.Node number) old begun roots ts → Prints old (head_of (kind_at g number)) new → PressedOn g new (begun + 1) roots (record { node = number; at = 0 } ∷ ts)
+pressed_node g old new begun roots ts number few is room a w =
     let long : length a.nodes ≡ begun = begun_long a.begins in
-    let f = first_met g begun number (to_come g roots ts) a.begins.visit low in
-    let is = f.is in
-    let room = f.room in
     let here : length a.nodes ≡ number = long ∙ sym is in
     let kind : Kind = kind_at g number in
     let vs : List Value = values_at g number in
     let feeds = subst (λ k. fed_to a.frame k ≡ frame_at g roots ts) (sym here) a.feeds in
-    let next = begun_node (to_come g roots ts) number low a.begins in
+    let next = begun_node (to_come g roots ts) number is room a.begins in
     record {
       nodes = a.nodes ++ no_node ∷ [];
       place = places.Start;
@@ -173,12 +172,12 @@ whole_end : (place : Place) → IsEnd place → may_end place false ≡ true
 whole_end place h = elim h [ inl e ↦ rw e refl | inr e ↦ rw e refl ]
 
 -- all is printed
-pub all_printed : (g : Shape) (text : List ℕ) (begun roots : ℕ) → length g.roots ≤ roots → PressedOn g text begun roots [] → IsPrinted g text
-all_printed g text begun roots past p =
+pub all_printed : (g : Shape) (text : List ℕ) (begun roots : ℕ) → length g.roots ≤ roots → length g.nodes ≤ begun → PressedOn g text begun roots [] → IsPrinted g text
+all_printed g text begun roots past all p =
     let s : State = at p.nodes (part_of (ListKind None) g.roots 0 roots) [] p.place in
     let whole : is_whole s ≡ true = rw (whole_end p.place (stands_end roots p.place p.stands)) refl in
     let is : run (2 ^ 32) start p.read.elements ≡ Ok s = ap (run (2 ^ 32) start) (sym (append-nil p.read.elements)) ∙ p.read.goes [] in
-    let same : graph_of s ≡ g = rw (begun_all roots past p.begins, take_all roots g.roots past) refl in
+    let same : graph_of s ≡ g = rw (begun_all all p.begins, take_all roots g.roots past) refl in
     let spelled : SpellsGraph (graph_of s) p.read.elements = spelled_where_read (2 ^ 32) p.read.elements s is whole (forms_of p.read.elements p.read.sound) in
     record { elements = p.read.elements; spelled = subst (λ h. SpellsGraph h p.read.elements) same spelled; sound = p.read.sound; written = p.read.written }
 
@@ -186,12 +185,10 @@ all_printed g text begun roots past p =
 work_there : (nodes : List NodeShape) (begun : ℕ) → begun < length nodes → unbegun (drop begun nodes) ≡ 2 + length (get_or nodes begun no_node).values + unbegun (drop (begun + 1) nodes)
 work_there nodes begun h = ap unbegun (drop-cons nodes begun no_node h) ∙ ap (λ i. 2 + length (get_or nodes begun no_node).values + unbegun (drop i nodes)) (sym (add-one begun))
 
-pub work_node : (g : Shape) (begun roots number : ℕ) (stack ts : List Step) (old : List ℕ) → begun ≤ number → AwaitsOn g (values.Node number) old begun roots (reverse stack) → ts ≡ stack ++ record { node = number; at = 0 } ∷ [] → unbegun (drop (begun + 1) g.nodes) + on_stack g (reverse ts) ≤ unbegun (drop begun g.nodes) + on_stack g (reverse stack)
-work_node g begun roots number stack ts old low a e =
-    let f = first_met g begun number (to_come g roots (reverse stack)) a.begins.visit low in
-    let room = f.room in
+pub work_node : (g : Shape) (begun number : ℕ) (stack ts : List Step) → number ≡ begun → begun < length g.nodes → ts ≡ stack ++ record { node = number; at = 0 } ∷ [] → unbegun (drop (begun + 1) g.nodes) + on_stack g (reverse ts) ≤ unbegun (drop begun g.nodes) + on_stack g (reverse stack)
+work_node g begun number stack ts is room e =
     let there = work_there g.nodes begun room in
-    let same : length (get_or g.nodes begun no_node).values ≡ length (values_at g number) = ap (λ i. length (values_at g i)) (sym f.is) in
+    let same : length (get_or g.nodes begun no_node).values ≡ length (values_at g number) = ap (λ i. length (values_at g i)) (sym is) in
     let top : on_stack g (reverse ts) ≡ suc (length (values_at g number) - 0) + on_stack g (reverse stack) = ap (λ x. on_stack g (reverse x)) e ∙ ap (on_stack g) (reverse-append stack (record { node = number; at = 0 } ∷ [])) in
     omega (arith, there, same, top)
 
@@ -204,6 +201,10 @@ pub work_popped : (g : Shape) (t : Step) (stack ts : List Step) → stack ≡ ts
 work_popped g t stack ts e =
     let top : on_stack g (reverse stack) ≡ suc (length (values_at g t.node) - t.at) + on_stack g (reverse ts) = ap (λ x. on_stack g (reverse x)) e ∙ ap (on_stack g) (reverse-append ts (t ∷ [])) in
     omega (arith, top)
+
+-- as much is left to do where the stack and the nodes that have begun are the same
+pub same_work : (g : Shape) (p q : Press) → p.stack ≡ q.stack → p.begun ≡ q.begun → work g p ≡ work g q
+same_work g p q stack begun = ap (λ n. unbegun (drop n g.nodes) + on_stack g (reverse p.stack.items)) begun ∙ ap (λ ts. unbegun (drop q.begun g.nodes) + on_stack g (reverse ts.items)) stack
 
 -- a step on top of the stack
 pub on_top : (g : Shape) (text : List ℕ) (begun roots : ℕ) (t : Step) (stack ts : List Step) → stack ≡ ts ++ t ∷ [] → PressedOn g text begun roots (reverse stack) → PressedOn g text begun roots (t ∷ reverse ts)
@@ -231,12 +232,18 @@ there_here p n node ready h e = subst (NamesThere p.types p.classes) (sym e) (re
 pub node_below : (p : Parts) (n : ℕ) → n < length (shape_of p).nodes → n < length p.nodes
 node_below p n h = let count = length-map p.nodes (node_shape p.types p.classes) in omega (arith, h, count)
 
-pub awaited_below : (p : Parts) (old : List ℕ) (begun roots number : ℕ) (stack : List Step) → begun ≤ number → AwaitsOn (shape_of p) (values.Node number) old begun roots stack → number < length p.nodes
-awaited_below p old begun roots number stack low a =
-    let f = first_met (shape_of p) begun number (to_come (shape_of p) roots stack) a.begins.visit low in
-    let room = f.room in
-    let is = f.is in
-    node_below p number (omega (arith, room, is))
+pub shape_below : (p : Parts) (n : ℕ) → n < length p.nodes → n < length (shape_of p).nodes
+shape_below p n h = let count = length-map p.nodes (node_shape p.types p.classes) in omega (arith, h, count)
+
+-- in a canonical form a node that hasn't begun is the next one
+pub met_in_order : (g : Shape) (old : List ℕ) (begun roots number : ℕ) (stack : List Step) → begun ≤ number → AwaitsOn g (values.Node number) old begun roots stack → (number ≡ begun → begun < length g.nodes → ⊥) → IsCanon g g → ⊥
+met_in_order g old begun roots number stack low a other c =
+    let f = first_met g begun number (to_come g roots stack) (a.begins.visit c) low in
+    other f.is f.room
+
+-- and all have begun in the end
+pub ends_in_order : (g : Shape) (text : List ℕ) (begun roots : ℕ) → length g.roots ≤ roots → PressedOn g text begun roots [] → (begun ≡ length g.nodes → ⊥) → IsCanon g g → ⊥
+ends_in_order g text begun roots past p other c = other (begun_last roots past p.begins c)
 
 pub step_below : (p : Parts) (old : List ℕ) (begun roots : ℕ) (t : Step) (stack : List Step) → PressedOn (shape_of p) old begun roots (t ∷ stack) → t.node < length p.nodes
 step_below p old begun roots t stack a =
@@ -269,8 +276,14 @@ before_key types classes node type pairs i old new e h w = rw (e, map_even i h) 
 pub before_value : (types : List Text) (classes : List Class) (node : Node) (type : Option ℕ) (pairs : List Pair) (i : ℕ) (old new : List ℕ) → node ≡ nodes_of.Map type pairs → (i % 2 ≡ 0 → ⊥) → Prints old (Sign Colon ∷ []) new → Prints old (before (kind_of types classes node) i) new
 before_value types classes node type pairs i old new e h w = rw (e, map_odd i h) w
 
--- the parts of a canonical form
-pub can_print : (given form : Parts) → IsSound given → length given.nodes < 2 ^ 32 → IsSound form → length form.nodes < 2 ^ 32 → IsCanon (shape_of given) (shape_of form) → CanPrint form
-can_print given form sound few sound' few' canon =
-    let closed = closed_of form sound' few' in
-    record { closed = closed; there = there_of form sound'; canon = form_stays (shape_of given) (shape_of form) (closed_of given sound few) closed canon }
+-- sound parts can be printed
+pub can_print : (p : Parts) → IsSound p → length p.nodes < 2 ^ 32 → CanPrint p
+can_print p sound few = record { closed = closed_of p sound few; there = there_of p sound }
+
+-- what is printed as it stands is canonical
+pub prints_itself : (g : Shape) (text : List ℕ) → IsPrinted g text → PrintsForm g text
+prints_itself g text p = record { form = g; canon = is_canonical g p.elements p.spelled; printed = p }
+
+-- a canonical form is its own
+pub stays_canonical : (given form : Parts) → IsSound given → length given.nodes < 2 ^ 32 → IsSound form → length form.nodes < 2 ^ 32 → IsCanon (shape_of given) (shape_of form) → AreCanonical form
+stays_canonical given form sound few sound' few' canon = form_stays (shape_of given) (shape_of form) (closed_of given sound few) (closed_of form sound' few') canon

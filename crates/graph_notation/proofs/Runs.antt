@@ -1,10 +1,11 @@
 -- What is written run by run.
-use Rattle.std.proofs.Common.{◌≡◌, ℕ, zero, suc, ◌+◌, ◌-◌, ◌<◌, ◌≤◌, List, [], ◌∷◌, ◌++◌, length, get_or, take, drop, refl, ap, sym, ◌∙◌, arith, append_assoc, length-drop, add-one}
+use Rattle.std.proofs.Common.{◌≡◌, ℕ, zero, suc, ◌+◌, ◌-◌, ◌*◌, ◌/◌, ◌%◌, ◌<◌, ◌≤◌, List, [], ◌∷◌, ◌++◌, length, get_or, take, drop, set, refl, ap, sym, ◌∙◌, subst, arith, append_assoc, length-drop, length-set, length-take-le, add-one, add-zero}
 use Rattle.std.specs.List.{flat_map}
 use Rattle.std.proofs.lemmas.Grind.{flat_map-append}
-use Rattle.std.proofs.lemmas.List.{append-nil, take_all}
+use Rattle.std.proofs.lemmas.List.{append-nil, take_all, take_more_set}
 use Rattle.std.proofs.Math.Seq.{take-suc}
-use Rattle.graph_notation.specs.Elements.{escaped}
+use Rattle.graph_notation.specs.Elements.{escaped, hex_digit, hex_pair}
+use Rattle.graph_notation.specs.Pressing.{IsOn}
 
 pub one_more : (f : ℕ → List ℕ) (xs : List ℕ) (i : ℕ) → i < length xs → flat_map f (take (i + 1) xs) ≡ flat_map f (take i xs) ++ f (get_or xs i 0)
 one_more f xs i h = ap (λ n. flat_map f (take n xs)) (add-one i) ∙ ap (flat_map f) (take-suc xs i 0 h) ∙ flat_map-append f (take i xs) (get_or xs i 0 ∷ []) ∙ ap (λ y. flat_map f (take i xs) ++ y) (append-nil (f (get_or xs i 0)))
@@ -41,6 +42,59 @@ byte_on text before whole out i h w e =
     e ∙ ap (λ x. x ++ escaped (get_or text i 0)) w
     ∙ append_assoc before (flat_map escaped (take i text)) (escaped (get_or text i 0))
     ∙ ap (λ x. before ++ x) (sym (one_more escaped text i h))
+
+-- many bytes that stand for themselves
+pub block_on : (text before out : List ℕ) (from at n : ℕ) → from ≤ at → at + n ≤ length text → ((k : ℕ) → k < n → escaped (get_or text (at + k) 0) ≡ get_or text (at + k) 0 ∷ []) → IsOn before text out from at → IsOn before text out from (at + n)
+block_on text before out from at zero low h stand w = subst (IsOn before text out from) (sym (add-zero at)) w
+block_on text before out from at (suc n) low h stand w =
+    let i : at + suc n ≡ at + n + 1 = omega arith in
+    let before_it : IsOn before text out from (at + n) = block_on text before out from at n low (omega (arith, h)) (λ k l. stand k (omega (arith, l))) w in
+    subst (IsOn before text out from) (sym i)
+    (byte_on text before (out ++ take (at + n + 1 - from) (drop from text)) (out ++ take (at + n - from) (drop from text)) (at + n) (omega (arith, h)) before_it
+    (stands_on text out from (at + n) (omega (arith, low)) (omega (arith, h)) (stand n (omega arith))))
+
+get_front : (xs : List ℕ) (n k : ℕ) → k < n → get_or (take n xs) k 0 ≡ get_or xs k 0
+get_front xs zero k h = absurd (omega (arith, h))
+get_front [] (suc n) k h = refl
+get_front (x ∷ xs) (suc n) zero h = refl
+get_front (x ∷ xs) (suc n) (suc k) h = get_front xs n k (omega (arith, h))
+
+-- the block of a text from a place on
+pub in_block : (text block : List ℕ) (at n : ℕ) → block ≡ take n (drop at text) → ((k : ℕ) → k < length block → escaped (get_or block k 0) ≡ get_or block k 0 ∷ []) → at + n ≤ length text → (k : ℕ) → k < n → escaped (get_or text (at + k) 0) ≡ get_or text (at + k) 0 ∷ []
+in_block text block at n is stand h k low =
+    let m : length (drop at text) ≡ length text - at = length-drop at text in
+    let long : length block ≡ n = ap length is ∙ length-take-le n (drop at text) (omega (arith, m, h)) in
+    let same : get_or block k 0 ≡ get_or text (at + k) 0 = ap (λ xs. get_or xs k 0) is ∙ get_front (drop at text) n k low ∙ get_drop text at k in
+    subst (λ b. escaped b ≡ b ∷ []) same (stand k (omega (arith, long, low)))
+
+-- two digits more
+pub pair_on : (block pairs : List ℕ) (at high low : ℕ) → at < length block → 2 * at + 1 < length pairs → take (2 * at) pairs ≡ flat_map hex_pair (take at block) → high ≡ hex_digit (get_or block at 0 / 16) → low ≡ hex_digit (get_or block at 0 % 16) → take (2 * (at + 1)) (set (set pairs (2 * at) high) (2 * at + 1) low) ≡ flat_map hex_pair (take (at + 1) block)
+pair_on block pairs at high low h room w a b =
+    let n : 2 * (at + 1) ≡ 2 * at + 1 + 1 = omega arith in
+    let long = length-set pairs (2 * at) high in
+    let d : high ∷ low ∷ [] ≡ hex_pair (get_or block at 0) = ap (λ x. x ∷ low ∷ []) a ∙ ap (λ x. hex_digit (get_or block at 0 / 16) ∷ x ∷ []) b in
+    ap (λ k. take k (set (set pairs (2 * at) high) (2 * at + 1) low)) n
+    ∙ take_more_set (set pairs (2 * at) high) (2 * at + 1) low (omega (arith, long, room))
+    ∙ ap (λ x. x ++ low ∷ []) (take_more_set pairs (2 * at) high (omega (arith, room)))
+    ∙ append_assoc (take (2 * at) pairs) (high ∷ []) (low ∷ [])
+    ∙ ap (λ x. x ++ (high ∷ low ∷ [])) w
+    ∙ ap (λ x. flat_map hex_pair (take at block) ++ x) d
+    ∙ sym (one_more hex_pair block at h)
+
+take_plus : (i n : ℕ) (xs : List ℕ) → take (i + n) xs ≡ take i xs ++ take n (drop i xs)
+take_plus zero n xs = let e : 0 + n ≡ n = omega arith in ap (λ k. take k xs) e
+take_plus (suc i) n [] = take_all (suc i + n) [] (omega arith) ∙ sym (take_all n [] (omega arith))
+take_plus (suc i) n (x ∷ xs) = let e : suc i + n ≡ suc (i + n) = omega arith in ap (λ k. take k (x ∷ xs)) e ∙ ap (λ ys. x ∷ ys) (take_plus i n xs)
+
+-- a block of pairs more
+pub pairs_on : (bytes block before out new : List ℕ) (at n : ℕ) → out ≡ before ++ flat_map hex_pair (take at bytes) → block ≡ take n (drop at bytes) → new ≡ out ++ flat_map hex_pair block → new ≡ before ++ flat_map hex_pair (take (at + n) bytes)
+pairs_on bytes block before out new at n w is e =
+    e ∙ ap (λ x. x ++ flat_map hex_pair block) w
+    ∙ append_assoc before (flat_map hex_pair (take at bytes)) (flat_map hex_pair block)
+    ∙ ap (λ x. before ++ x)
+    (ap (λ x. flat_map hex_pair (take at bytes) ++ flat_map hex_pair x) is
+    ∙ sym (flat_map-append hex_pair (take at bytes) (take n (drop at bytes)))
+    ∙ ap (flat_map hex_pair) (sym (take_plus at n bytes)))
 
 -- the last run
 pub all_written : (text before out : List ℕ) (from i : ℕ) → from ≤ i → length text ≤ i → out ++ take (i - from) (drop from text) ≡ before ++ flat_map escaped (take i text) → out ++ drop from text ≡ before ++ flat_map escaped text

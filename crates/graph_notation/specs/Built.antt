@@ -1,5 +1,5 @@
 -- Nodes that are put together.
-use Rattle.std.specs.Prelude.{◌≡◌, ℕ, ◌≤◌, List, [], ◌∷◌, ◌++◌, length, map}
+use Rattle.std.specs.Prelude.{◌≡◌, ◌≤◌, List, ◌++◌, length, map}
 use Rattle.hessian_graph.specs.declared.node.Node.{Node}
 use Rattle.hessian_graph.specs.declared.node.Class.{Class}
 use Rattle.hessian_graph.specs.Shape.{Text, NodeShape, node_shape}
@@ -10,11 +10,6 @@ pub record Grows {N : Type 0} (old new : List N) : Type 0 where
   pub more : List N
   pub is : new ≡ old ++ more
   pub one : length more ≤ 1
-
--- the number of the row that was added at the end
-pub record IsLast {N : Type 0} (none : N) (old new : List N) (row : N) (number : ℕ) : Type 0 where
-  pub is : new ≡ old ++ row ∷ []
-  pub number_is : number ≡ length old
 
 -- nodes that were built show these shapes, with names that are there
 pub record AreBuilt (types : List Text) (classes : List Class) (nodes : List Node) (shapes : List NodeShape) : Type 0 where

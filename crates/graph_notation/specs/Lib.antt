@@ -11,4 +11,5 @@ pub mod Words
 pub mod Whole
 pub mod Progress
 pub mod Built
+pub mod Naming
 pub mod Pressing

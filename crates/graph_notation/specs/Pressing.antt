@@ -18,7 +18,7 @@ use Rattle.graph_notation.specs.declared.frame.Place.{Place}
 use Rattle.graph_notation.specs.declared.frame.Place.TheVariants as places
 use Rattle.graph_notation.specs.declared.press.Step.{Step}
 use Rattle.graph_notation.specs.declared.press.Press.{Press}
-use Rattle.graph_notation.specs.Elements.{printed}
+use Rattle.graph_notation.specs.Elements.{escaped, printed}
 use Rattle.graph_notation.specs.Notation.{IsSoundElement}
 use Rattle.graph_notation.specs.Machine.{State, start, run, fed, wants_value}
 
@@ -26,6 +26,10 @@ use Rattle.graph_notation.specs.Machine.{State, start, run, fed, wants_value}
 pub record Prints (old : List ℕ) (es : List Element) (new : List ℕ) : Type 0 where
   pub sound : All IsSoundElement es
   pub written : new ≡ old ++ flat_map printed es
+
+-- the bytes of a text up to a place are written behind the others, but for a last run of them that stand for themselves
+abbrev pub IsOn : List ℕ → List ℕ → List ℕ → ℕ → ℕ → Type 0
+IsOn others text out from at = out ++ take (at - from) (drop from text) ≡ others ++ flat_map escaped (take at text)
 
 -- the element of a value that is no node, or of a node that has begun
 abbrev pub element_of : Value → Element
@@ -139,12 +143,12 @@ pub record Within (g : Shape) (begun : ℕ) (t : Step) : Type 0 where
   pub node : t.node < begun
   pub at : t.at ≤ length (values_at g t.node)
 
--- the nodes that have begun are the first of the graph, and the values that come next lead to all others
+-- the nodes that have begun are the first of the graph; where that is canonical, the values that come next lead to all others
 pub record Begun (g : Shape) (nodes : List NodeShape) (begun : ℕ) (stack : List Step) (next : List Value) : Type 0 where
   pub few : begun ≤ length g.nodes
   pub whole : filled g nodes stack ≡ take begun g.nodes
   pub within : All (Within g begun) stack
-  pub visit : Visit g (upto begun) next (upto (length g.nodes))
+  pub visit : IsCanon g g → Visit g (upto begun) next (upto (length g.nodes))
 
 -- what is printed is read to the nodes on the stack, the innermost first
 pub record PressedOn (g : Shape) (text : List ℕ) (begun roots : ℕ) (stack : List Step) : Type 0 where
@@ -177,11 +181,14 @@ PressedAt g t p = PressedOn g p.out.items p.begun p.roots (t ∷ reverse p.stack
 abbrev pub Awaits : Shape → Value → Press → Type 0
 Awaits g v p = AwaitsOn g v p.out.items p.begun p.roots (reverse p.stack.items)
 
--- the parts are sound and canonical
+-- the parts are sound
 pub record CanPrint (p : Parts) : Type 0 where
   pub closed : IsClosed (shape_of p)
   pub there : AllThere p.types p.classes p.nodes
-  pub canon : IsCanon (shape_of p) (shape_of p)
+
+-- the parts are those of a canonical form
+abbrev pub AreCanonical : Parts → Type 0
+AreCanonical p = IsCanon (shape_of p) (shape_of p)
 
 -- the work at nodes that haven't begun
 abbrev pub unbegun : List NodeShape → ℕ

@@ -1,5 +1,5 @@
 -- The contents of texts and byte lists, byte by byte.
-use Rattle.std.specs.Prelude.{◌≡◌, ℕ, ◌+◌, ◌-◌, ◌*◌, ◌<◌, ◌≤◌, ◌^◌, ◌&&◌, ◌||◌, nat_lt, nat_le, nat_eq, List, [], ◌∷◌, ◌++◌, Option, Some, None, if◌then◌else◌}
+use Rattle.std.specs.Prelude.{◌≡◌, ℕ, ◌+◌, ◌-◌, ◌*◌, ◌<◌, ◌≤◌, ◌^◌, ◌&&◌, ◌||◌, nat_lt, nat_le, nat_eq, Bool, false, List, [], ◌∷◌, ◌++◌, get_or, Option, Some, None, if◌then◌else◌}
 use Rattle.std.specs.Char.{encode_utf8}
 use lib.Utf8.{scalar}
 use Rattle.graph_notation.specs.declared.contents.Mode.{Mode}
@@ -67,3 +67,15 @@ abbrev pub unhexed : List ℕ → Option (List ℕ)
 unhexed [] = Some []
 unhexed (a ∷ []) = None
 unhexed (a ∷ b ∷ rest) = paired (digit_of a) (digit_of b) (unhexed rest)
+
+-- a byte that doesn't stand for itself
+abbrev pub is_special : ℕ → Bool
+is_special b = is_control b || nat_eq b 0x22 || nat_eq b 0x5c
+
+-- the bytes from one place up to another stand for themselves
+abbrev pub ArePlain : List ℕ → ℕ → ℕ → Type 0
+ArePlain text from to = (k : ℕ) → from ≤ k → k < to → is_special (get_or text k 0) ≡ false
+
+-- the digit of a number below 16
+abbrev pub below_16 : ℕ → Option ℕ
+below_16 n = if nat_lt n 16 then Some n else None

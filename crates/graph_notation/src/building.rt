@@ -2,21 +2,24 @@
 
 ghost use Rattle.std.specs.Prelude.{◌≡◌, ℕ, ◌+◌, ◌<◌, ◌≤◌, ◌^◌, ◌∷◌, ◌++◌, [], List, length, map, OnOk, IfOk, MatchOption};
 ghost use Rattle.hessian_graph.specs.Shape.{shape_of, node_shape, type_of, alternately, no_class, ListKind, MapKind, ObjectKind};
-ghost use Rattle.hessian_graph.specs.Tables.{Extends, NumberBelow};
-ghost use Rattle.hessian_graph.specs.Moving.{NamesThere, AllThere};
+ghost use Rattle.hessian_graph.specs.Canon.{Rises, given_number};
+ghost use Rattle.hessian_graph.specs.Tables.{IsNumber, NumberBelow};
+ghost use Rattle.hessian_graph.specs.Moving.{AllThere};
 ghost use Rattle.hessian_graph.specs.InUse.{InOrderOfUse};
 ghost use Rattle.graph_notation.specs.declared.element.Element.{Element};
 ghost use Rattle.graph_notation.specs.Forms.{SpellsGraph};
 ghost use Rattle.graph_notation.specs.Machine.{shown, kind_of, graph_of};
 ghost use Rattle.graph_notation.specs.Whole.{IsEven, Fits, AllGood};
-ghost use Rattle.graph_notation.specs.Built.{Grows, IsLast};
+ghost use Rattle.graph_notation.specs.Built.{Grows};
+ghost use Rattle.graph_notation.specs.Naming.{TextsFit, ClassesFit, NamesFit, HasRoom, NamesTaken};
 ghost use Rattle.graph_notation.specs.View.{state_of};
 
 use crate::frame::{Frame, Head};
 use crate::lists::{Names, Values};
+use crate::name_table::{ClassTable, TextTable};
 use crate::reader::Reader;
 use hessian_graph::{
-    Chars, Class, Classes, Graph, Node, Nodes, Pair, Pairs, Parts, Texts, Value, canon,
+    Chars, Class, Classes, Graph, Items, Node, Nodes, Pair, Pairs, Parts, Texts, Value,
 };
 use std::alloc::{AllocError, Global};
 
@@ -49,56 +52,84 @@ fn pair_up(alloc: Global, values: Vec<Value>) -> Result<Pairs, AllocError>
     Ok(Pairs::from(pairs))
 }
 
-/// The names of types and classes, one for each node that has one.
+/// The names of types and classes, in the order of first use, each once.
 #[derive(Drop)]
 pub struct Tables {
     /// The types.
-    pub types: Vec<Chars>,
+    pub types: TextTable,
     /// The classes.
-    pub classes: Vec<Class>,
+    pub classes: ClassTable,
 }
 
 impl Tables {
-    /// Adds a type, where there is one, and answers its number.
-    #[tactic(auto, using(crate::proofs::Assembling::last_type))]
-    fn add_type(&mut self, name: Option<Chars>) -> Result<Option<u32>, AllocError>
-        requires { length self.old.types.items < 2 ^ 32 }
-        ensures named { IfOk result (λ n. type_of self.new.types.items n ≡ name) }
-        ensures there { IfOk result (NumberBelow (length self.new.types.items)) }
-        ensures types { OnOk result (Grows self.old.types.items self.new.types.items) }
+    /// Tables without names.
+    fn new(alloc: Global) -> Tables
+        ensures fits { NamesFit result }
+        ensures types { result.types.texts.items ≡ [] }
+        ensures classes { result.classes.rows.items ≡ [] }
+    {
+        Tables {
+            types: TextTable::new(alloc),
+            classes: ClassTable::new(alloc),
+        }
+    }
+
+    /// The number of a type, where there is one.
+    #[tactic(auto, using(crate::proofs::Naming::number_small, crate::proofs::Naming::number_grows, crate::proofs::Naming::number_rises, crate::proofs::Naming::grows_none))]
+    fn add_type(&mut self, alloc: Global, name: Option<Chars>) -> Result<Option<u32>, AllocError>
+        requires fits { TextsFit self.old.types }
+        requires room { length self.old.types.texts.items < 2 ^ 32 }
+        ensures named { IfOk result (λ n. type_of self.new.types.texts.items n ≡ name) }
+        ensures there { IfOk result (NumberBelow (length self.new.types.texts.items)) }
+        ensures fits { OnOk result (TextsFit self.new.types) }
+        ensures grows { OnOk result (Grows self.old.types.texts.items self.new.types.texts.items) }
+        ensures uses { IfOk result (λ n. Rises (length self.old.types.texts.items) (given_number n) (length self.new.types.texts.items)) }
         ensures classes { self.new.classes ≡ self.old.classes }
     {
         match name {
             Some(name) => {
-                let number = self.types.len() as u32;
-                self.types.push(name)?;
-                Ok(Some(number))
+                let number = self.types.number(alloc, &name)?;
+                Ok(Some(number as u32))
             }
             None => Ok(None),
         }
     }
 
-    /// Adds a class, and answers its number.
-    fn add_class(&mut self, class: Class) -> Result<u32, AllocError>
-        requires { length self.old.classes.items < 2 ^ 32 }
-        ensures class { IfOk result (IsLast no_class self.old.classes.items self.new.classes.items class) }
+    /// The parts of these roots and nodes, with the tables' names.
+    fn into_parts(self, roots: Items, nodes: Nodes) -> Parts
+        ensures { result ≡ record { roots = roots; nodes = nodes; types = self.types.texts.items; classes = self.classes.rows.items } }
+    {
+        let types = self.types;
+        let classes = self.classes;
+        Parts {
+            roots,
+            nodes,
+            types: Texts::from(types.texts),
+            classes: Classes::from(classes.rows),
+        }
+    }
+
+    /// The number of a class.
+    #[tactic(auto, using(crate::proofs::Naming::number_small))]
+    fn add_class(&mut self, alloc: Global, class: Class) -> Result<u32, AllocError>
+        requires fits { ClassesFit self.old.classes }
+        requires room { length self.old.classes.rows.items < 2 ^ 32 }
+        ensures class { IfOk result (IsNumber no_class self.old.classes.rows.items self.new.classes.rows.items class) }
+        ensures fits { OnOk result (ClassesFit self.new.classes) }
         ensures types { self.new.types ≡ self.old.types }
     {
-        let number = self.classes.len() as u32;
-        self.classes.push(class)?;
-        Ok(number)
+        let number = self.classes.number(alloc, class)?;
+        Ok(number as u32)
     }
 }
 
 /// The node that was read, with its names in the tables.
 fn node_of(alloc: Global, frame: Frame, tables: &mut Tables) -> Result<Node, AllocError>
-    requires types { length tables.old.types.items < 2 ^ 32 }
-    requires classes { length tables.old.classes.items < 2 ^ 32 }
+    requires fit { NamesFit tables.old }
+    requires room { HasRoom tables.old }
     requires fits { Fits (kind_of frame.head frame.names) (length frame.values) }
-    ensures shape { IfOk result (λ node. node_shape tables.new.types.items tables.new.classes.items node ≡ shown frame) }
-    ensures there { IfOk result (NamesThere tables.new.types.items tables.new.classes.items) }
-    ensures types { OnOk result (Grows tables.old.types.items tables.new.types.items) }
-    ensures classes { OnOk result (Grows tables.old.classes.items tables.new.classes.items) }
+    ensures shape { IfOk result (λ node. node_shape tables.new.types.texts.items tables.new.classes.rows.items node ≡ shown frame) }
+    ensures names { IfOk result (NamesTaken tables.old tables.new) }
 {
     let Frame {
         number: _,
@@ -108,63 +139,63 @@ fn node_of(alloc: Global, frame: Frame, tables: &mut Tables) -> Result<Node, All
         keyed: _,
     } = frame;
     match head {
-        Head::List(name) => list_of(name, values, tables),
+        Head::List(name) => list_of(alloc, name, values, tables),
         Head::Map(name) => map_of(alloc, name, values, tables),
-        Head::Object(name) => object_of(name, names, values, tables),
+        Head::Object(name) => object_of(alloc, name, names, values, tables),
     }
 }
 
 /// A list.
-#[tactic(auto, using(crate::proofs::Assembling::grows_none))]
-fn list_of(name: Option<Chars>, values: Values, tables: &mut Tables) -> Result<Node, AllocError>
-    requires types { length tables.old.types.items < 2 ^ 32 }
-    ensures shape { IfOk result (λ node. node_shape tables.new.types.items tables.new.classes.items node ≡ record { kind = ListKind name; values = values }) }
-    ensures there { IfOk result (NamesThere tables.new.types.items tables.new.classes.items) }
-    ensures types { OnOk result (Grows tables.old.types.items tables.new.types.items) }
-    ensures classes { OnOk result (Grows tables.old.classes.items tables.new.classes.items) }
+fn list_of(
+    alloc: Global,
+    name: Option<Chars>,
+    values: Values,
+    tables: &mut Tables,
+) -> Result<Node, AllocError>
+    requires fit { NamesFit tables.old }
+    requires room { HasRoom tables.old }
+    ensures shape { IfOk result (λ node. node_shape tables.new.types.texts.items tables.new.classes.rows.items node ≡ record { kind = ListKind name; values = values }) }
+    ensures names { IfOk result (NamesTaken tables.old tables.new) }
 {
-    let type_name = tables.add_type(name)?;
+    let type_name = tables.add_type(alloc, name)?;
     let items = values.into_items();
     Ok(Node::List { type_name, items })
 }
 
 /// A map.
-#[tactic(auto, using(crate::proofs::Assembling::grows_none))]
 fn map_of(
     alloc: Global,
     name: Option<Chars>,
     values: Values,
     tables: &mut Tables,
 ) -> Result<Node, AllocError>
-    requires types { length tables.old.types.items < 2 ^ 32 }
+    requires fit { NamesFit tables.old }
+    requires room { HasRoom tables.old }
     requires even { IsEven (length values) }
-    ensures shape { IfOk result (λ node. node_shape tables.new.types.items tables.new.classes.items node ≡ record { kind = MapKind name; values = values }) }
-    ensures there { IfOk result (NamesThere tables.new.types.items tables.new.classes.items) }
-    ensures types { OnOk result (Grows tables.old.types.items tables.new.types.items) }
-    ensures classes { OnOk result (Grows tables.old.classes.items tables.new.classes.items) }
+    ensures shape { IfOk result (λ node. node_shape tables.new.types.texts.items tables.new.classes.rows.items node ≡ record { kind = MapKind name; values = values }) }
+    ensures names { IfOk result (NamesTaken tables.old tables.new) }
 {
-    let type_name = tables.add_type(name)?;
+    let type_name = tables.add_type(alloc, name)?;
     let pairs = pair_up(alloc, values.into_inner())?;
     Ok(Node::Map { type_name, pairs })
 }
 
 /// An object.
-#[tactic(auto, using(crate::proofs::Assembling::grows_none, crate::proofs::Assembling::grows_one, crate::proofs::Assembling::last_class, crate::proofs::Assembling::class_fits))]
 fn object_of(
+    alloc: Global,
     name: Chars,
     names: Names,
     values: Values,
     tables: &mut Tables,
 ) -> Result<Node, AllocError>
-    requires classes { length tables.old.classes.items < 2 ^ 32 }
+    requires fit { NamesFit tables.old }
+    requires room { HasRoom tables.old }
     requires fits { length values ≡ length names }
-    ensures shape { IfOk result (λ node. node_shape tables.new.types.items tables.new.classes.items node ≡ record { kind = ObjectKind (record { name = name; fields = names }); values = values }) }
-    ensures there { IfOk result (NamesThere tables.new.types.items tables.new.classes.items) }
-    ensures types { OnOk result (Grows tables.old.types.items tables.new.types.items) }
-    ensures classes { OnOk result (Grows tables.old.classes.items tables.new.classes.items) }
+    ensures shape { IfOk result (λ node. node_shape tables.new.types.texts.items tables.new.classes.rows.items node ≡ record { kind = ObjectKind (record { name = name; fields = names }); values = values }) }
+    ensures names { IfOk result (NamesTaken tables.old tables.new) }
 {
     let fields = names.into_texts();
-    let class = tables.add_class(Class { name, fields })?;
+    let class = tables.add_class(alloc, Class { name, fields })?;
     let values = values.into_items();
     Ok(Node::Object { class, values })
 }
@@ -175,6 +206,7 @@ fn parts_of(alloc: Global, reader: Reader) -> Result<Parts, AllocError>
     requires few { length reader.nodes.items < 2 ^ 32 }
     ensures shape { IfOk result (λ p. shape_of p ≡ graph_of (state_of reader)) }
     ensures there { IfOk result (λ p. AllThere p.types p.classes p.nodes) }
+    ensures tables { IfOk result InOrderOfUse }
 {
     let Reader {
         nodes,
@@ -186,24 +218,15 @@ fn parts_of(alloc: Global, reader: Reader) -> Result<Parts, AllocError>
     let mut left = nodes;
     left.as_mut_slice().reverse();
     let mut built = Vec::new(alloc);
-    let mut tables = Tables {
-        types: Vec::new(alloc),
-        classes: Vec::new(alloc),
-    };
+    let mut tables = Tables::new(alloc);
     while let Some(whole) = left.pop() {
         let node = node_of(alloc, whole, &mut tables)?;
         built.push(node)?;
     }
-    let Tables { types, classes } = tables;
-    Ok(Parts {
-        roots: frame.values.into_items(),
-        nodes: Nodes::from(built),
-        types: Texts::from(types),
-        classes: Classes::from(classes),
-    })
+    Ok(tables.into_parts(frame.values.into_items(), Nodes::from(built)))
 }
 
-/// The graph that was read, in its canonical form.
+/// The graph that was read. It's canonical: nodes are read in the order of a first visit.
 pub fn graph_of(alloc: Global, reader: Reader) -> Result<Graph, AllocError>
     requires spelled { (es : List Element) × SpellsGraph (graph_of (state_of reader)) es }
     requires few { length reader.nodes.items < 2 ^ 32 }
@@ -211,8 +234,5 @@ pub fn graph_of(alloc: Global, reader: Reader) -> Result<Graph, AllocError>
     ensures tables { IfOk result InOrderOfUse }
 {
     let parts = parts_of(alloc, reader)?;
-    match Graph::from_parts(parts) {
-        Ok(graph) => canon(alloc, &graph),
-        Err(_) => unreachable!(),
-    }
+    Ok(Graph::from_sound(parts))
 }

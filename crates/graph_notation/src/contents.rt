@@ -1,9 +1,10 @@
 //! The contents of texts and byte lists.
 
-ghost use Rattle.std.specs.Prelude.{◌≡◌, ℕ, List, Option, ◌+◌, ◌*◌, ◌<◌, ◌∷◌, ◌++◌, [], None, Some, IfOk, IfSome, MatchOption};
+ghost use Rattle.std.specs.Prelude.{◌≡◌, ℕ, List, Option, ◌+◌, ◌*◌, ◌<◌, ◌≤◌, ◌∷◌, ◌++◌, [], length, None, Some, IfOk, IfSome, MatchOption};
 ghost use Rattle.graph_notation.specs.Elements.{is_control};
-ghost use Rattle.graph_notation.specs.Unquoting.{digit_of, unquoted, unhexed, Small, Turns, turn, one_digit, paired, behind};
+ghost use Rattle.graph_notation.specs.Unquoting.{digit_of, unquoted, unhexed, Small, Turns, ArePlain, turn, one_digit, paired, behind, below_16};
 
+use crate::plain::plain_end;
 use std::alloc::{AllocError, Global};
 
 /// Where the reading of a text's content stands.
@@ -148,16 +149,37 @@ fn take(mode: Mode, byte: u8, out: &mut Vec<u8>) -> Result<Option<Mode>, AllocEr
     }
 }
 
+/// The place behind the bytes that stand for themselves from a place on, where the reading is between characters.
+fn run_end(mode: Mode, inner: &[u8], at: usize) -> usize
+    requires { at ≤ length inner.now }
+    ensures low { at ≤ result }
+    ensures within { result ≤ length inner.now }
+    ensures plain { at < result → (mode ≡ Mode.Plain) × ArePlain inner.now at result }
+{
+    match mode {
+        Mode::Plain => plain_end(inner, at),
+        _ => at,
+    }
+}
+
 /// The bytes of the text whose content stands between the quotes.
 pub fn unquote(alloc: Global, inner: &[u8]) -> Result<Option<Vec<u8>>, AllocError>
     ensures { IfOk result (λ r. MatchOption r (unquoted Mode.Plain inner.now ≡ None) (λ v. unquoted Mode.Plain inner.now ≡ Some v.items)) }
 {
-    let mut out = Vec::new(alloc);
+    let mut out = Vec::with_capacity(alloc, inner.len())?;
     let mut mode = Mode::Plain;
-    for byte in inner {
-        match take(mode, *byte, &mut out)? {
-            Some(next) => mode = next,
-            None => return Ok(None),
+    let mut at = 0;
+    while at < inner.len() {
+        let end = run_end(mode, inner, at);
+        if at < end {
+            out.extend_from_slice(&inner[at..end])?;
+            at = end;
+        } else {
+            match take(mode, inner[at], &mut out)? {
+                Some(next) => mode = next,
+                None => return Ok(None),
+            }
+            at += 1;
         }
     }
     match mode {
@@ -166,17 +188,39 @@ pub fn unquote(alloc: Global, inner: &[u8]) -> Result<Option<Vec<u8>>, AllocErro
     }
 }
 
+/// For each byte the number that it writes as a hexadecimal digit in lower case, or 16.
+const NIBBLES: [u8; 256] = [
+    16, 16, 16, 16, 16, 16, 16, 16, 16, 16, 16, 16, 16, 16, 16, 16, 16, 16, 16, 16, 16, 16, 16, 16,
+    16, 16, 16, 16, 16, 16, 16, 16, 16, 16, 16, 16, 16, 16, 16, 16, 16, 16, 16, 16, 16, 16, 16, 16,
+    0, 1, 2, 3, 4, 5, 6, 7, 8, 9, 16, 16, 16, 16, 16, 16, 16, 16, 16, 16, 16, 16, 16, 16, 16, 16,
+    16, 16, 16, 16, 16, 16, 16, 16, 16, 16, 16, 16, 16, 16, 16, 16, 16, 16, 16, 16, 16, 16, 16, 10,
+    11, 12, 13, 14, 15, 16, 16, 16, 16, 16, 16, 16, 16, 16, 16, 16, 16, 16, 16, 16, 16, 16, 16, 16,
+    16, 16, 16, 16, 16, 16, 16, 16, 16, 16, 16, 16, 16, 16, 16, 16, 16, 16, 16, 16, 16, 16, 16, 16,
+    16, 16, 16, 16, 16, 16, 16, 16, 16, 16, 16, 16, 16, 16, 16, 16, 16, 16, 16, 16, 16, 16, 16, 16,
+    16, 16, 16, 16, 16, 16, 16, 16, 16, 16, 16, 16, 16, 16, 16, 16, 16, 16, 16, 16, 16, 16, 16, 16,
+    16, 16, 16, 16, 16, 16, 16, 16, 16, 16, 16, 16, 16, 16, 16, 16, 16, 16, 16, 16, 16, 16, 16, 16,
+    16, 16, 16, 16, 16, 16, 16, 16, 16, 16, 16, 16, 16, 16, 16, 16, 16, 16, 16, 16, 16, 16, 16, 16,
+    16, 16, 16, 16, 16, 16, 16, 16, 16, 16, 16, 16, 16, 16,
+];
+
+/// The number of a hexadecimal digit in lower case, or 16 for any other byte.
+fn nibble(byte: u8) -> u8
+    ensures { digit_of byte ≡ below_16 result }
+{
+    NIBBLES[byte as usize]
+}
+
 /// The byte that two digits write.
 fn pair(high: u8, low: u8) -> Option<u8>
     ensures byte { (rest : Option (List ℕ)) → MatchOption result (paired (digit_of high) (digit_of low) rest ≡ None)
         (λ b. paired (digit_of high) (digit_of low) rest ≡ behind (b ∷ []) rest) }
 {
-    match digit(high) {
-        Some(high) => match digit(low) {
-            Some(low) => Some(high * 16 + low),
-            None => None,
-        },
-        None => None,
+    let first = nibble(high);
+    let second = nibble(low);
+    if first < 16 && second < 16 {
+        Some(first * 16 + second)
+    } else {
+        None
     }
 }
 
@@ -184,7 +228,7 @@ fn pair(high: u8, low: u8) -> Option<u8>
 pub fn unhex(alloc: Global, digits: &[u8]) -> Result<Option<Vec<u8>>, AllocError>
     ensures { IfOk result (λ r. MatchOption r (unhexed digits.now ≡ None) (λ v. unhexed digits.now ≡ Some v.items)) }
 {
-    let mut out = Vec::new(alloc);
+    let mut out = Vec::with_capacity(alloc, digits.len() / 2)?;
     let mut at = 0;
     while digits.len() - at >= 2 {
         match pair(digits[at], digits[at + 1]) {

@@ -10,9 +10,12 @@ mod element;
 mod entries;
 mod fault;
 mod frame;
+mod halt;
 pub mod laws;
 mod lists;
+mod name_table;
 mod numbers;
+mod plain;
 mod press;
 mod printed;
 mod reader;
@@ -24,6 +27,7 @@ mod words;
 pub use fault::{NODE_LIMIT, NotationFault};
 pub use hessian_graph::OutOfMemory;
 pub use press::print_graph;
+pub use printed::write_text;
 pub use reading::read_notation;
 
 #[cfg(test)]

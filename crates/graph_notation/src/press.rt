@@ -1,13 +1,14 @@
-//! Printing a canonical form, element by element.
+//! Printing a graph, element by element.
 
-ghost use Rattle.std.specs.Prelude.{◌≡◌, ◌+◌, ◌-◌, ◌<◌, ◌≤◌, [], length, get_or, OnOk, IfOk};
-ghost use Rattle.hessian_graph.specs.Shape.{shape_of, values_at};
+ghost use Rattle.std.specs.Prelude.{◌≡◌, ℕ, ◌+◌, ◌-◌, ◌<◌, ◌≤◌, [], Err, length, get_or, OnOk, IfOk, IfSome, IfNone, IsTrue, ◌↔◌};
+ghost use Rattle.hessian_graph.specs.Shape.{shape_of, values_at, values_of, no_vertex};
 ghost use Rattle.hessian_graph.specs.declared.value.Value.TheVariants.{Node as AtNode, Null};
 ghost use Rattle.graph_notation.specs.Notation.{PrintsForm, IsPrinted};
-ghost use Rattle.graph_notation.specs.Pressing.{Pressed, PressedAt, Awaits, CanPrint, work};
+ghost use Rattle.graph_notation.specs.Pressing.{Pressed, PressedAt, Awaits, CanPrint, AreCanonical, work};
 
 use crate::entries::{value_at, write_before, write_comma, write_end, write_head, write_leaf};
-use hessian_graph::{Graph, Parts, Value, canon};
+use crate::halt::Halt;
+use hessian_graph::{Graph, Node, Parts, Value, canon};
 use std::alloc::{AllocError, Global};
 
 /// A node whose entries are being printed.
@@ -35,7 +36,6 @@ pub struct Press {
 impl Press {
     /// Nothing is printed.
     pub fn new(alloc: Global, parts: &Parts) -> Press
-        requires { CanPrint parts.now }
         ensures pressed { Pressed (shape_of parts.now) result }
         ensures empty { result.stack.items ≡ [] }
         ensures none { result.roots ≡ 0 }
@@ -49,18 +49,16 @@ impl Press {
     }
 
     /// Prints a value. Of a node that hasn't begun it prints what stands before the entries.
-    fn value(&mut self, parts: &Parts, value: &Value) -> Result<(), AllocError>
+    fn value(&mut self, parts: &Parts, value: &Value) -> Result<(), Halt>
         requires ready { CanPrint parts.now }
         requires awaits { Awaits (shape_of parts.now) value.now self.old }
         ensures pressed { OnOk result (Pressed (shape_of parts.now) self.new) }
         ensures work { OnOk result (work (shape_of parts.now) self.new ≤ work (shape_of parts.now) self.old) }
         ensures roots { self.new.roots ≡ self.old.roots }
+        ensures order { result ≡ Err Halt.OutOfOrder → AreCanonical parts.now → ⊥ }
     {
         match value {
-            Value::Node(number) if *number as usize >= self.begun => {
-                self.begin(parts, *number)?;
-                Ok(())
-            }
+            Value::Node(number) if *number as usize >= self.begun => self.begin(parts, *number),
             _ => {
                 write_leaf(&mut self.out, value)?;
                 Ok(())
@@ -68,11 +66,38 @@ impl Press {
         }
     }
 
+    /// Whether a node is the one that begins next.
+    fn is_next(&self, parts: &Parts, number: u32) -> bool
+        ensures { IsTrue result ↔ ((number ≡ self.now.begun) × (number < length parts.now.nodes)) }
+    {
+        let node = number as usize;
+        node == self.begun && node < parts.nodes.as_slice().len()
+    }
+
     /// Begins a node that hasn't begun: prints what stands before its entries.
-    fn begin(&mut self, parts: &Parts, number: u32) -> Result<(), AllocError>
+    fn begin(&mut self, parts: &Parts, number: u32) -> Result<(), Halt>
         requires ready { CanPrint parts.now }
         requires awaits { Awaits (shape_of parts.now) (AtNode number) self.old }
         requires new { self.old.begun ≤ number }
+        ensures pressed { OnOk result (Pressed (shape_of parts.now) self.new) }
+        ensures work { OnOk result (work (shape_of parts.now) self.new ≤ work (shape_of parts.now) self.old) }
+        ensures roots { self.new.roots ≡ self.old.roots }
+        ensures order { result ≡ Err Halt.OutOfOrder → AreCanonical parts.now → ⊥ }
+    {
+        if self.is_next(parts, number) {
+            self.open(parts, number)?;
+            Ok(())
+        } else {
+            Err(Halt::OutOfOrder)
+        }
+    }
+
+    /// Begins the node that comes next.
+    fn open(&mut self, parts: &Parts, number: u32) -> Result<(), AllocError>
+        requires ready { CanPrint parts.now }
+        requires awaits { Awaits (shape_of parts.now) (AtNode number) self.old }
+        requires next { number ≡ self.old.begun }
+        requires there { number < length parts.now.nodes }
         ensures pressed { OnOk result (Pressed (shape_of parts.now) self.new) }
         ensures work { OnOk result (work (shape_of parts.now) self.new ≤ work (shape_of parts.now) self.old) }
         ensures roots { self.new.roots ≡ self.old.roots }
@@ -90,16 +115,80 @@ impl Press {
         Ok(())
     }
 
-    /// Goes on at the innermost node: prints its next value, or its end.
-    fn go_on(&mut self, parts: &Parts, step: Step) -> Result<(), AllocError>
+    /// Whether a value is no node that has yet to begin.
+    fn is_leaf(&self, value: &Value) -> bool
+        ensures { IsTrue result → (k : ℕ) → value.now ≡ AtNode k → k < self.now.begun }
+    {
+        match value {
+            Value::Node(number) => (*number as usize) < self.begun,
+            _ => true,
+        }
+    }
+
+    /// Prints the next value of a node, which is no node that has yet to begin.
+    fn leaf(
+        &mut self,
+        parts: &Parts,
+        node: &Node,
+        step: Step,
+        value: &Value,
+    ) -> Result<(), AllocError>
         requires ready { CanPrint parts.now }
+        requires below { step.node < length parts.now.nodes }
+        requires here { node.now ≡ get_or parts.now.nodes step.node no_vertex }
+        requires pressed { PressedAt (shape_of parts.now) step self.old }
+        requires within { step.at < length (values_of node.now) }
+        requires is { value.now ≡ get_or (values_of node.now) step.at Null }
+        requires begun { (k : ℕ) → value.now ≡ AtNode k → k < self.old.begun }
+        ensures same { (self.new.stack ≡ self.old.stack) × (self.new.begun ≡ self.old.begun) × (self.new.roots ≡ self.old.roots) }
+        ensures pressed { OnOk result (PressedAt (shape_of parts.now) (record { node = step.node; at = step.at + 1 }) self.new) }
+    {
+        write_before(&mut self.out, parts, node, step.at)?;
+        write_leaf(&mut self.out, value)?;
+        Ok(())
+    }
+
+    /// Prints the next values of a node up to one that has yet to begin, and answers its place.
+    fn leaves(&mut self, parts: &Parts, node: &Node, step: Step) -> Result<usize, AllocError>
+        requires ready { CanPrint parts.now }
+        requires below { step.node < length parts.now.nodes }
+        requires here { node.now ≡ get_or parts.now.nodes step.node no_vertex }
+        requires pressed { PressedAt (shape_of parts.now) step self.old }
+        ensures same { (self.new.stack ≡ self.old.stack) × (self.new.begun ≡ self.old.begun) × (self.new.roots ≡ self.old.roots) }
+        ensures further { IfOk result (λ at. step.at ≤ at) }
+        ensures pressed { IfOk result (λ at. PressedAt (shape_of parts.now) (record { node = step.node; at = at }) self.new) }
+    {
+        let mut at = step.at;
+        while let Some(value) = value_at(node, at) {
+            if !self.is_leaf(value) {
+                return Ok(at);
+            }
+            self.leaf(
+                parts,
+                node,
+                Step {
+                    node: step.node,
+                    at,
+                },
+                value,
+            )?;
+            at += 1;
+        }
+        Ok(at)
+    }
+
+    /// Prints the next value of a node, or its end.
+    fn turn(&mut self, parts: &Parts, node: &Node, step: Step) -> Result<(), Halt>
+        requires ready { CanPrint parts.now }
+        requires below { step.node < length parts.now.nodes }
+        requires here { node.now ≡ get_or parts.now.nodes step.node no_vertex }
         requires pressed { PressedAt (shape_of parts.now) step self.old }
         ensures pressed { OnOk result (Pressed (shape_of parts.now) self.new) }
         ensures work { OnOk result (work (shape_of parts.now) self.new
             ≤ work (shape_of parts.now) self.old + (length (values_at (shape_of parts.now) step.node) - step.at)) }
         ensures roots { self.new.roots ≡ self.old.roots }
+        ensures order { result ≡ Err Halt.OutOfOrder → AreCanonical parts.now → ⊥ }
     {
-        let node = &parts.nodes.as_slice()[step.node as usize];
         match value_at(node, step.at) {
             Some(value) => {
                 write_before(&mut self.out, parts, node, step.at)?;
@@ -117,13 +206,37 @@ impl Press {
         }
     }
 
+    /// Goes on at the innermost node: prints its next values up to a node that begins, or up to its end.
+    fn go_on(&mut self, parts: &Parts, step: Step) -> Result<(), Halt>
+        requires ready { CanPrint parts.now }
+        requires pressed { PressedAt (shape_of parts.now) step self.old }
+        ensures pressed { OnOk result (Pressed (shape_of parts.now) self.new) }
+        ensures work { OnOk result (work (shape_of parts.now) self.new
+            ≤ work (shape_of parts.now) self.old + (length (values_at (shape_of parts.now) step.node) - step.at)) }
+        ensures roots { self.new.roots ≡ self.old.roots }
+        ensures order { result ≡ Err Halt.OutOfOrder → AreCanonical parts.now → ⊥ }
+    {
+        let node = &parts.nodes.as_slice()[step.node as usize];
+        let at = self.leaves(parts, node, step)?;
+        self.turn(
+            parts,
+            node,
+            Step {
+                node: step.node,
+                at,
+            },
+        )?;
+        Ok(())
+    }
+
     /// Prints what is left of the nodes that have begun.
-    fn drain(&mut self, parts: &Parts) -> Result<(), AllocError>
+    fn drain(&mut self, parts: &Parts) -> Result<(), Halt>
         requires ready { CanPrint parts.now }
         requires pressed { Pressed (shape_of parts.now) self.old }
         ensures pressed { OnOk result (Pressed (shape_of parts.now) self.new) }
         ensures empty { OnOk result (self.new.stack.items ≡ []) }
         ensures roots { self.new.roots ≡ self.old.roots }
+        ensures order { result ≡ Err Halt.OutOfOrder → AreCanonical parts.now → ⊥ }
     {
         while let Some(step) = self.stack.pop() {
             self.go_on(parts, step)?;
@@ -132,7 +245,7 @@ impl Press {
     }
 
     /// Prints a root, and what it reaches.
-    fn root(&mut self, parts: &Parts, root: &Value) -> Result<(), AllocError>
+    fn root(&mut self, parts: &Parts, root: &Value) -> Result<(), Halt>
         requires ready { CanPrint parts.now }
         requires pressed { Pressed (shape_of parts.now) self.old }
         requires empty { self.old.stack.items ≡ [] }
@@ -142,6 +255,7 @@ impl Press {
         ensures pressed { OnOk result (Pressed (shape_of parts.now) self.new) }
         ensures empty { OnOk result (self.new.stack.items ≡ []) }
         ensures roots { OnOk result (self.new.roots ≡ self.old.roots + 1) }
+        ensures order { result ≡ Err Halt.OutOfOrder → AreCanonical parts.now → ⊥ }
     {
         write_comma(&mut self.out, self.roots)?;
         self.roots += 1;
@@ -150,18 +264,55 @@ impl Press {
         Ok(())
     }
 
+    /// Whether each node has begun.
+    fn all_begun(&self, parts: &Parts) -> bool
+        ensures { IsTrue result ↔ (self.now.begun ≡ length parts.now.nodes) }
+    {
+        self.begun == parts.nodes.as_slice().len()
+    }
+
     /// Prints the roots, and what they reach.
-    fn roots(&mut self, parts: &Parts) -> Result<(), AllocError>
+    fn roots(&mut self, parts: &Parts) -> Result<(), Halt>
         requires ready { CanPrint parts.now }
         requires pressed { Pressed (shape_of parts.now) self.old }
         requires empty { self.old.stack.items ≡ [] }
         requires none { self.old.roots ≡ 0 }
-        ensures { OnOk result (IsPrinted (shape_of parts.now) self.new.out.items) }
+        ensures printed { OnOk result (IsPrinted (shape_of parts.now) self.new.out.items) }
+        ensures order { result ≡ Err Halt.OutOfOrder → AreCanonical parts.now → ⊥ }
     {
         for root in parts.roots.as_slice() {
             self.root(parts, root)?;
         }
-        Ok(())
+        if self.all_begun(parts) {
+            Ok(())
+        } else {
+            Err(Halt::OutOfOrder)
+        }
+    }
+}
+
+/// The notation of a graph as it stands, where that is its canonical form.
+fn print_parts(alloc: Global, parts: &Parts) -> Result<Vec<u8>, Halt>
+    requires { CanPrint parts.now }
+    ensures printed { IfOk result (λ text. IsPrinted (shape_of parts.now) text.items) }
+    ensures order { result ≡ Err Halt.OutOfOrder → AreCanonical parts.now → ⊥ }
+{
+    let mut press = Press::new(alloc, parts);
+    press.roots(parts)?;
+    let Press { out, .. } = press;
+    Ok(out)
+}
+
+/// The notation of a graph that isn't its canonical form: that of a copy.
+fn print_copy(alloc: Global, graph: &Graph) -> Result<Vec<u8>, AllocError>
+    ensures { IfOk result (λ text. PrintsForm (shape_of graph.now) text.items) }
+{
+    let _given = graph.parts();
+    let form = canon(alloc, graph)?;
+    match print_parts(alloc, form.parts()) {
+        Ok(text) => Ok(text),
+        Err(Halt::NoMemory) => Err(AllocError),
+        Err(Halt::OutOfOrder) => unreachable!(),
     }
 }
 
@@ -171,11 +322,9 @@ impl Press {
 pub fn print_graph(alloc: Global, graph: &Graph) -> Result<Vec<u8>, AllocError>
     ensures { IfOk result (λ text. PrintsForm (shape_of graph.now) text.items) }
 {
-    let _given = graph.parts();
-    let form = canon(alloc, graph)?;
-    let parts = form.parts();
-    let mut press = Press::new(alloc, parts);
-    press.roots(parts)?;
-    let Press { out, .. } = press;
-    Ok(out)
+    match print_parts(alloc, graph.parts()) {
+        Ok(text) => Ok(text),
+        Err(Halt::NoMemory) => Err(AllocError),
+        Err(Halt::OutOfOrder) => print_copy(alloc, graph),
+    }
 }

@@ -1,12 +1,12 @@
 //! The one token that is written for an element.
 
-ghost use Rattle.std.specs.Prelude.{◌≡◌, ◌+◌, ◌<◌, ◌≤◌, ◌∷◌, ◌++◌, [], ◌-◌, ◌^◌, All, FitsSigned, OnOk, IfOk, decimal, length, take, drop, get_or, true};
+ghost use Rattle.std.specs.Prelude.{◌≡◌, ℕ, List, ◌+◌, ◌*◌, ◌<◌, ◌≤◌, ◌∷◌, ◌++◌, [], ◌-◌, ◌^◌, All, FitsSigned, OnOk, IfOk, decimal, length, take, drop, get_or, true};
 ghost use Rattle.std.specs.Fmt.{signed_decimal};
 ghost use Rattle.std.specs.List.{flat_map};
 ghost use Rattle.std.specs.Int.{w32, w64};
 ghost use Rattle.std.specs.Str.{IsUtf8};
 ghost use Rattle.graph_notation.specs.Notation.{IsSoundElement};
-ghost use Rattle.graph_notation.specs.Pressing.{element_of};
+ghost use Rattle.graph_notation.specs.Pressing.{IsOn, element_of};
 ghost use Rattle.graph_notation.specs.Elements.{mark_byte, hex_digit, hex_pair, short_hex, is_control, escaped, quoted, word_of};
 
 use crate::element::Mark;
@@ -81,13 +81,38 @@ fn digit(number: u8) -> u8
     }
 }
 
+/// Two digits for each byte of a block, and what is left of the room for them.
+fn pairs_of(block: &[u8]) -> [u8; 64]
+    requires { length block.now ≤ 32 }
+    ensures { take (2 * length block.now) result ≡ flat_map hex_pair block.now }
+{
+    let mut pairs = [0; 64];
+    for at in 0..block.len() {
+        pairs[2 * at] = digit(block[at] / 16);
+        pairs[2 * at + 1] = digit(block[at] % 16);
+    }
+    pairs
+}
+
+/// Appends two digits for each byte of a block.
+fn write_block(out: &mut Vec<u8>, block: &[u8]) -> Result<(), AllocError>
+    requires { length block.now ≤ 32 }
+    ensures { OnOk result (out.new.items ≡ out.old.items ++ flat_map hex_pair block.now) }
+{
+    let pairs = pairs_of(block);
+    out.extend_from_slice(&pairs[..2 * block.len()])?;
+    Ok(())
+}
+
 /// Appends two digits for each byte.
-#[tactic(auto, using(crate::proofs::Runs::one_more))]
 fn write_pairs(out: &mut Vec<u8>, bytes: &[u8]) -> Result<(), AllocError>
     ensures { OnOk result (out.new.items ≡ out.old.items ++ flat_map hex_pair bytes.now) }
 {
-    for byte in bytes {
-        out.extend_from_slice(&[digit(*byte / 16), digit(*byte % 16)])?;
+    let mut at = 0;
+    while at < bytes.len() {
+        let end = at + (bytes.len() - at).min(32);
+        write_block(out, &bytes[at..end])?;
+        at = end;
     }
     Ok(())
 }
@@ -110,11 +135,26 @@ fn write_escaped(out: &mut Vec<u8>, byte: u8) -> Result<(), AllocError>
     Ok(())
 }
 
-/// Whether a byte of a text stands for itself.
-fn stands(byte: u8) -> bool
-    ensures { result ≡ true → escaped byte ≡ byte ∷ [] }
+/// 0 for a byte of a text that stands for itself, and 1 for any other.
+fn flaw(byte: u8) -> u8
+    ensures { result ≡ 0 → escaped byte ≡ byte ∷ [] }
 {
-    byte >= 0x20 && byte != 0x7f && byte != b'"' && byte != b'\\'
+    if byte < 0x20 || byte == 0x7f || byte == b'"' || byte == b'\\' {
+        1
+    } else {
+        0
+    }
+}
+
+/// Whether each byte of a block stands for itself.
+fn all_stand(block: &[u8]) -> bool
+    ensures { result ≡ true → (k : ℕ) → k < length block.now → escaped (get_or block.now k 0) ≡ get_or block.now k 0 ∷ [] }
+{
+    let mut most = 0;
+    for byte in block {
+        most = most.max(flaw(*byte));
+    }
+    most == 0
 }
 
 /// Appends a run of bytes that stand for themselves, and the byte behind them, which doesn't.
@@ -135,7 +175,7 @@ fn go_past(out: &mut Vec<u8>, text: &[u8], from: usize, at: usize) -> Result<usi
     ensures written { IfOk result (λ next. out.new.items ++ take (at + 1 - next) (drop next text.now)
         ≡ (out.old.items ++ take (at - from) (drop from text.now)) ++ escaped (get_or text.now at 0)) }
 {
-    if stands(text[at]) {
+    if flaw(text[at]) == 0 {
         Ok(from)
     } else {
         match write_run(out, text, from, at) {
@@ -145,19 +185,66 @@ fn go_past(out: &mut Vec<u8>, text: &[u8], from: usize, at: usize) -> Result<usi
     }
 }
 
+/// Goes past some bytes one by one, and answers where the run of bytes that stand for themselves begins now.
+fn go_through(
+    out: &mut Vec<u8>,
+    text: &[u8],
+    first: usize,
+    start: usize,
+    end: usize,
+) -> Result<usize, AllocError>
+    requires first { first ≤ start }
+    requires start { start ≤ end }
+    requires end { end ≤ length text.now }
+    ensures low { IfOk result (λ next. next ≤ end) }
+    ensures written { (before : List ℕ) → IsOn before text.now out.old.items first start
+        → IfOk result (λ next. IsOn before text.now out.new.items next end) }
+{
+    let mut from = first;
+    for at in start..end {
+        from = go_past(out, text, from, at)?;
+    }
+    Ok(from)
+}
+
+/// The same of a block, at once where each byte stands for itself.
+fn go_past_block(
+    out: &mut Vec<u8>,
+    text: &[u8],
+    first: usize,
+    start: usize,
+    end: usize,
+) -> Result<usize, AllocError>
+    requires first { first ≤ start }
+    requires start { start ≤ end }
+    requires end { end ≤ length text.now }
+    ensures low { IfOk result (λ next. next ≤ end) }
+    ensures written { (before : List ℕ) → IsOn before text.now out.old.items first start
+        → IfOk result (λ next. IsOn before text.now out.new.items next end) }
+{
+    if all_stand(&text[start..end]) {
+        Ok(first)
+    } else {
+        go_through(out, text, first, start, end)
+    }
+}
+
 /// Appends the content of a text: runs of bytes that stand for themselves, and the others one by one.
 fn write_content(out: &mut Vec<u8>, text: &[u8]) -> Result<(), AllocError>
     ensures { OnOk result (out.new.items ≡ out.old.items ++ flat_map escaped text.now) }
 {
     let mut from = 0;
-    for at in 0..text.len() {
-        from = go_past(out, text, from, at)?;
+    let mut at = 0;
+    while at < text.len() {
+        let end = at + (text.len() - at).min(64);
+        from = go_past_block(out, text, from, at, end)?;
+        at = end;
     }
     out.extend_from_slice(&text[from..])?;
     Ok(())
 }
 
-/// Appends a text.
+/// Appends a text as it stands in a notation: in quotes, with its quotes, backslashes and control characters escaped.
 pub fn write_text(out: &mut Vec<u8>, text: &str) -> Result<(), AllocError>
     ensures fits { IsUtf8 text.now }
     ensures written { OnOk result (out.new.items ≡ out.old.items ++ quoted text.now) }

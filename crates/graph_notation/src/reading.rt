@@ -1,10 +1,11 @@
 //! Reading a notation.
 
-ghost use Rattle.std.specs.Prelude.{◌≡◌, ◌≢◌, ◌+◌, ◌<◌, ◌≤◌, [], length, drop, OnOk, IfOk, IfErr};
+ghost use Rattle.std.specs.Prelude.{◌≡◌, ◌≢◌, ◌+◌, ◌<◌, ◌≤◌, [], length, drop, get_or, OnOk, IfOk, IfErr};
 ghost use Rattle.hessian_graph.specs.Shape.{shape_of};
 ghost use Rattle.hessian_graph.specs.Canon.{IsCanon};
 ghost use Rattle.hessian_graph.specs.InUse.{InOrderOfUse};
 ghost use Rattle.graph_notation.specs.declared.fault.NotationFault.TheVariants.{OutOfMemory};
+ghost use Rattle.graph_notation.specs.Elements.{mark_byte};
 ghost use Rattle.graph_notation.specs.Lexing.{token_length};
 ghost use Rattle.graph_notation.specs.Machine.{is_whole};
 ghost use Rattle.graph_notation.specs.Notation.{IsNotation};
@@ -13,12 +14,13 @@ ghost use Rattle.graph_notation.specs.Refusal.{Refusal};
 ghost use Rattle.graph_notation.specs.View.{state_of, Fine, Steps};
 
 use crate::building::graph_of;
+use crate::element::Mark;
 use crate::fault::{NODE_LIMIT, NotationFault};
 use crate::frame::Cause;
 use crate::reader::Reader;
 use crate::stop::Stop;
 use crate::token_ends::token_end;
-use crate::words::element_of;
+use crate::words::{element_of, mark};
 use hessian_graph::Graph;
 use std::alloc::{AllocError, Global};
 
@@ -44,6 +46,48 @@ fn fault(stop: Stop, at: usize) -> NotationFault
 
 /// Reads the token at a place, and answers the place behind it.
 fn read_token(
+    alloc: Global,
+    text: &[u8],
+    at: usize,
+    reader: &mut Reader,
+) -> Result<usize, NotationFault>
+    requires within { at < length text.now }
+    requires fine { Fine reader.old }
+    requires limit { reader.old.limit ≡ NODE_LIMIT }
+    ensures read { ReadsOn NODE_LIMIT text.now at (state_of reader.old) (state_of reader.new) result }
+    ensures fine { OnOk result (Fine reader.new) }
+    ensures limit { reader.new.limit ≡ reader.old.limit }
+{
+    match mark(text[at]) {
+        Some(mark) => read_mark(alloc, text, at, mark, reader),
+        None => read_longer(alloc, text, at, reader),
+    }
+}
+
+/// Reads the mark at a place.
+fn read_mark(
+    alloc: Global,
+    text: &[u8],
+    at: usize,
+    mark: Mark,
+    reader: &mut Reader,
+) -> Result<usize, NotationFault>
+    requires within { at < length text.now }
+    requires here { get_or text.now at 0 ≡ mark_byte mark }
+    requires fine { Fine reader.old }
+    requires limit { reader.old.limit ≡ NODE_LIMIT }
+    ensures read { ReadsOn NODE_LIMIT text.now at (state_of reader.old) (state_of reader.new) result }
+    ensures fine { OnOk result (Fine reader.new) }
+    ensures limit { reader.new.limit ≡ reader.old.limit }
+{
+    match reader.take_mark(alloc, mark) {
+        Ok(()) => Ok(at + 1),
+        Err(stop) => Err(fault(stop, at)),
+    }
+}
+
+/// Reads a token of any length.
+fn read_longer(
     alloc: Global,
     text: &[u8],
     at: usize,

@@ -1,8 +1,13 @@
 //! Where tokens end.
 
-ghost use Rattle.std.specs.Prelude.{◌≡◌, ◌+◌, ◌<◌, ◌≤◌, length, drop, true, false};
+ghost use Rattle.std.specs.Prelude.{◌≡◌, ℕ, ◌+◌, ◌<◌, ◌≤◌, length, drop, get_or, true, false, IsTrue};
 ghost use Rattle.graph_notation.specs.Tokens.{is_word_byte};
 ghost use Rattle.graph_notation.specs.Lexing.{word_run, closing, token_length};
+
+use crate::plain::plain_end;
+
+/// How many bytes of a long word are looked at in one go.
+const BLOCK: usize = 32;
 
 /// Whether a byte is one of a word.
 fn is_word_byte(byte: u8) -> bool
@@ -14,6 +19,30 @@ fn is_word_byte(byte: u8) -> bool
         || byte == b'-'
         || byte == b'@'
         || byte == b'#'
+}
+
+/// Whether all bytes of a block are of words.
+fn are_word_bytes(block: &[u8]) -> bool
+    ensures { IsTrue result → (k : ℕ) → k < length block.now → is_word_byte (get_or block.now k 0) ≡ true }
+{
+    let mut all = true;
+    for byte in block {
+        all &= is_word_byte(*byte);
+    }
+    all
+}
+
+/// The place behind the bytes of a word from a place on, where the word may be long.
+fn long_word_end(text: &[u8], at: usize) -> usize
+    requires { at ≤ length text.now }
+    ensures end { result ≡ at + word_run (drop at text.now) }
+    ensures within { result ≤ length text.now }
+{
+    let mut end = at;
+    while text.len() - end >= BLOCK && are_word_bytes(&text[end..end + BLOCK]) {
+        end += BLOCK;
+    }
+    word_end(text, end)
 }
 
 /// The place behind the bytes of a word from a place on.
@@ -33,6 +62,16 @@ fn word_end(text: &[u8], at: usize) -> usize
     end
 }
 
+/// The place behind a run of bytes that stand for themselves, unless `\` stands before it.
+fn past_plain(text: &[u8], at: usize, escape: bool) -> usize
+    requires { at ≤ length text.now }
+    ensures same { at + closing escape (drop at text.now) ≡ result + closing escape (drop result text.now) }
+    ensures onward { at ≤ result }
+    ensures within { result ≤ length text.now }
+{
+    if escape { at } else { plain_end(text, at) }
+}
+
 /// The place behind the `"` that ends a text, or the end of all.
 #[tactic(auto, using(crate::proofs::Cutting::quote_on, crate::proofs::Cutting::quote_off, crate::proofs::Cutting::quote_end))]
 fn text_end(text: &[u8], at: usize) -> usize
@@ -40,7 +79,7 @@ fn text_end(text: &[u8], at: usize) -> usize
     ensures end { result ≡ at + closing false (drop at text.now) }
     ensures within { result ≤ length text.now }
 {
-    let mut end = at;
+    let mut end = past_plain(text, at, false);
     let mut escape = false;
     while end < text.len() {
         let byte = text[end];
@@ -48,7 +87,7 @@ fn text_end(text: &[u8], at: usize) -> usize
             return end + 1;
         }
         escape = !escape && byte == b'\\';
-        end += 1;
+        end = past_plain(text, end + 1, escape);
     }
     end
 }
@@ -61,7 +100,9 @@ pub fn token_end(text: &[u8], at: usize) -> usize
     ensures within { result ≤ length text.now }
 {
     let byte = text[at];
-    if is_word_byte(byte) {
+    if byte == b'x' {
+        long_word_end(text, at + 1)
+    } else if is_word_byte(byte) {
         word_end(text, at + 1)
     } else if byte == b'"' {
         text_end(text, at + 1)

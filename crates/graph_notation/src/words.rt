@@ -1,6 +1,6 @@
 //! What a token is by itself.
 
-ghost use Rattle.std.specs.Prelude.{◌≡◌, ◌≢◌, ℕ, ℤ, ◌<◌, ◌^◌, ◌∷◌, ◌++◌, [], List, None, Some, IfOk, MatchOption, FitsSigned, decimal, codes, All, IsTrue, ◌↔◌};
+ghost use Rattle.std.specs.Prelude.{◌≡◌, ◌≢◌, ℕ, ℤ, ◌<◌, ◌^◌, ◌∷◌, ◌++◌, [], List, None, Some, IfOk, IfSome, MatchOption, FitsSigned, decimal, codes, All, IsTrue, ◌↔◌};
 ghost use Rattle.std.specs.Fmt.{signed_decimal};
 ghost use Rattle.std.specs.Int.{w32, w64};
 ghost use Rattle.std.specs.String.{string_bytes};
@@ -14,6 +14,7 @@ use crate::contents::{unhex, unquote};
 use crate::element::{Element, Mark};
 use crate::numbers::{int, long, number};
 use hessian_graph::{Chars, Octets, Value};
+use simdutf8::basic::from_utf8;
 use std::alloc::{AllocError, Global};
 
 /// What a token is by itself, if anything.
@@ -23,6 +24,9 @@ pub fn element_of(alloc: Global, token: &[u8]) -> Result<Option<Element>, AllocE
 {
     if let Some(mark) = mark_of(token) {
         return Ok(Some(Element::Sign(mark)));
+    }
+    if let Some(element) = by_first_byte(alloc, token)? {
+        return Ok(Some(element));
     }
     if let Some(number) = reference_of(token) {
         return Ok(Some(Element::Reference(number)));
@@ -39,6 +43,65 @@ pub fn element_of(alloc: Global, token: &[u8]) -> Result<Option<Element>, AllocE
     }
 }
 
+/// What a token is by the kind that its first byte tells. Where it's none of that kind, nothing is known of it.
+fn by_first_byte(alloc: Global, token: &[u8]) -> Result<Option<Element>, AllocError>
+    ensures { IfOk result (λ r. IfSome r (Reads token.now)) }
+{
+    if token.len() == 0 {
+        return Ok(None);
+    }
+    match token[0] {
+        b'"' => words(alloc, token),
+        b'x' => bytes(alloc, token),
+        b'#' => Ok(reference(token)),
+        b'0'..=b'9' => Ok(digits(token)),
+        _ => Ok(None),
+    }
+}
+
+/// The element of a text.
+fn words(alloc: Global, token: &[u8]) -> Result<Option<Element>, AllocError>
+    ensures { IfOk result (λ r. IfSome r (Reads token.now)) }
+{
+    match text_of(alloc, token)? {
+        Some(text) => Ok(Some(Element::Words(text))),
+        None => Ok(None),
+    }
+}
+
+/// The element of a list of bytes.
+fn bytes(alloc: Global, token: &[u8]) -> Result<Option<Element>, AllocError>
+    ensures { IfOk result (λ r. IfSome r (Reads token.now)) }
+{
+    match binary_of(alloc, token)? {
+        Some(bytes) => Ok(Some(Element::Plain(Value::Bytes(bytes)))),
+        None => Ok(None),
+    }
+}
+
+/// The element of a reference.
+fn reference(token: &[u8]) -> Option<Element>
+    ensures { IfSome result (Reads token.now) }
+{
+    match reference_of(token) {
+        Some(number) => Some(Element::Reference(number)),
+        None => None,
+    }
+}
+
+/// The element of a number that isn't negative.
+fn digits(token: &[u8]) -> Option<Element>
+    ensures { IfSome result (Reads token.now) }
+{
+    if let Some(number) = long_of(token) {
+        return Some(Element::Plain(Value::Long(number)));
+    }
+    match int(token) {
+        Some(number) => Some(Element::Plain(Value::Int(number))),
+        None => None,
+    }
+}
+
 /// The mark that a token is.
 #[tactic(auto, using(crate::proofs::Readings::one_byte))]
 fn mark_of(token: &[u8]) -> Option<Mark>
@@ -51,7 +114,7 @@ fn mark_of(token: &[u8]) -> Option<Mark>
 }
 
 /// The mark of a byte.
-fn mark(byte: u8) -> Option<Mark>
+pub fn mark(byte: u8) -> Option<Mark>
     ensures { MatchOption result ((m : Mark) → byte ≢ mark_byte m) (λ m. byte ≡ mark_byte m) }
 {
     match byte {
@@ -197,11 +260,10 @@ fn text_of(alloc: Global, token: &[u8]) -> Result<Option<Chars>, AllocError>
 fn text(bytes: Vec<u8>) -> Option<Chars>
     ensures { MatchOption result (IsUtf8 bytes.items → ⊥) (λ text. (text ≡ bytes.items) × IsUtf8 bytes.items) }
 {
-    match String::from_utf8(bytes) {
-        Ok(text) => {
-            let _text = text.as_str();
-            Some(Chars::from(text))
-        }
-        Err(_) => None,
+    if from_utf8(bytes.as_slice()).is_err() {
+        return None;
     }
+    // SAFETY: the bytes were just found to be UTF-8.
+    let text = unsafe { String::from_utf8_unchecked(bytes) };
+    Some(Chars::from(text))
 }

@@ -82,8 +82,8 @@ impl Reader {
         Ok(())
     }
 
-    /// Takes a mark.
-    fn take_mark(&mut self, alloc: Global, mark: Mark) -> Result<(), Stop>
+    /// Takes a mark, where it can stand here.
+    pub fn take_mark(&mut self, alloc: Global, mark: Mark) -> Result<(), Stop>
         requires { Fine self.old }
         ensures state { Steps result (state_of self.new) (mark_step self.old.limit mark (state_of self.old)) }
         ensures fine { OnOk result (Fine self.new) }

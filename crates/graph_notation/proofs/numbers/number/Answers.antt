@@ -1,28 +1,6 @@
-use Rattle.std.proofs.Common.{◌≡◌, true, false, None, Some, Ok, sym, ap, ◌∙◌}
-use Rattle.std.proofs.lemmas.Slice.Eq.{bytes_eq-Decides}
-use Rattle.std.specs.Prelude.{decimal}
-use Rattle.std.specs.Result.{result_ok}
-use Rattle.graph_notation.proofs.Decimals.{text_of_number, parsed_number, no_text, same_text}
+use Rattle.std.proofs.Common.{arith}
+use Rattle.graph_notation.proofs.SmallNumbers.{too_high}
 use Rattle.graph_notation.proofs.numbers.number.Goals as goal
 
-pub returns-in_err-ok : goal.returns-in_err-ok
-returns-in_err-ok c = rw c.from_residual.ensures (λ n fits same.
-    no_text c.args.bytes.now _ _ c.from_utf8.result c.from_utf8.ensures.cases c.in_err-ok.ensures.value
-    (text_of_number n c.args.bytes.now fits same))
-
-pub returns-in_err-number : goal.returns-in_err-number
-returns-in_err-number c = rw c.from_residual-in_err-number.ensures (λ n fits same.
-    let text = same_text c.args.bytes.now _ _ c.in_ok-ok.field-0 c.from_utf8.result c.from_utf8.ensures.cases c.in_ok-ok.ensures.value in
-    let read : c.parse.result ≡ Ok n = parsed_number n c.in_ok-ok.field-0.now c.parse.result fits (text ∙ same) c.parse.ensures.value.0 in
-    let none : None ≡ Some n = c.in_err-number.ensures.value ∙ ap result_ok read in
-    cc)
-
-pub returns-else-eq : goal.returns-else-eq
-returns-else-eq c = λ n fits same.
-    let text = same_text c.args.bytes.now _ _ c.in_ok-ok.field-0 c.from_utf8.result c.from_utf8.ensures.cases c.in_ok-ok.ensures.value in
-    let read : c.parse.result ≡ Ok n = parsed_number n c.in_ok-ok.field-0.now c.parse.result fits (text ∙ same) c.parse.ensures.value.0 in
-    let some : Some c.in_ok-number.number ≡ Some n = c.in_ok-number.ensures.value ∙ ap result_ok read in
-    let number : c.in_ok-number.number ≡ n = cc in
-    let printed = c.as_bytes.ensures.value ∙ c.format.ensures.text ∙ ap decimal number ∙ sym same in
-    let never : false ≡ true = c.if-eq.ensures ∙ (bytes_eq-Decides c.as_bytes.result.now c.args.bytes.now).1 printed in
-    cc
+pub returns-in-Some-2 : goal.returns-in-Some-2
+returns-in-Some-2 c = too_high c.in-Some.number c.args.bytes.now c.in-Some.ensures.0 c.in-Some.ensures.1 (omega arith)

@@ -1,26 +1,13 @@
-use Rattle.std.proofs.Common.{◌≡◌, ◌+◌, get_or, subst, sym}
+use Rattle.std.proofs.Common.{◌<◌, length, sym, subst}
 use Rattle.std.specs.Prelude.{reverse}
-use Rattle.hessian_graph.specs.Shape.{Kind, shape_of, no_vertex}
-use Rattle.graph_notation.specs.Pressing.{Prints, head_of}
-use Rattle.graph_notation.proofs.Printing.{awaited_below, indexed, there_here, kind_here, pressed_node, from_top, work_node}
+use Rattle.hessian_graph.specs.Shape.{shape_of}
+use Rattle.graph_notation.proofs.Printing.{met_in_order, node_below}
 use Rattle.graph_notation.proofs.press.Press.begin.Goals as goal
 
-pub bounds-as_slice-number : goal.bounds-as_slice-number
-bounds-as_slice-number c = rw c.as_slice.ensures (awaited_below c.args.parts.now c.args.self.now.out.items c.args.self.now.begun c.args.self.now.roots c.args.number (reverse c.args.self.now.stack.items) c.requires.new c.requires.awaits)
-
-pub write_head-requires : goal.write_head-requires
-write_head-requires c =
-    let below = awaited_below c.args.parts.now c.args.self.now.out.items c.args.self.now.begun c.args.self.now.roots c.args.number (reverse c.args.self.now.stack.items) c.requires.new c.requires.awaits in
-    there_here c.args.parts.now c.args.number c.index-as_slice-number.result c.requires.ready below
-    (indexed c.as_slice.result.now c.args.parts.now.nodes c.args.number c.index-as_slice-number.result c.index-as_slice-number.is c.as_slice.ensures below)
-
-pub returns-clause-pressed : goal.returns-clause-pressed
-returns-clause-pressed c =
-    let below = awaited_below c.args.parts.now c.args.self.now.out.items c.args.self.now.begun c.args.self.now.roots c.args.number (reverse c.args.self.now.stack.items) c.requires.new c.requires.awaits in
-    let here : c.index-as_slice-number.result ≡ get_or c.args.parts.now.nodes c.args.number no_vertex = indexed c.as_slice.result.now c.args.parts.now.nodes c.args.number c.index-as_slice-number.result c.index-as_slice-number.is c.as_slice.ensures below in
-    let prints = subst (λ (k : Kind). Prints c.args.self.now.out.items (head_of k) c.write_head.new.out.items) (sym (kind_here c.args.parts.now c.args.number c.index-as_slice-number.result here)) c.in_ok-write_head.ensures in
-    from_top (shape_of c.args.parts.now) c.write_head.new.out.items (c.args.self.now.begun + 1) c.args.self.now.roots (record { node = c.args.number; at = 0 }) c.push.new.self.items c.args.self.now.stack.items c.in_ok-push.ensures.items
-    (pressed_node (shape_of c.args.parts.now) c.args.self.now.out.items c.write_head.new.out.items c.args.self.now.begun c.args.self.now.roots (reverse c.args.self.now.stack.items) c.args.number c.requires.ready.closed.few c.requires.new c.requires.awaits prints)
-
-pub returns-clause-work : goal.returns-clause-work
-returns-clause-work c = work_node (shape_of c.args.parts.now) c.args.self.now.begun c.args.self.now.roots c.args.number c.args.self.now.stack.items c.push.new.self.items c.args.self.now.out.items c.requires.new c.requires.awaits c.in_ok-push.ensures.items
+pub returns-else-is_next-clause-order : goal.returns-else-is_next-clause-order
+returns-else-is_next-clause-order c = λ halts canon.
+    let p = c.args.parts.now in
+    let s = c.args.self.now in
+    met_in_order (shape_of p) s.out.items s.begun s.roots c.args.number (reverse s.stack.items) c.requires.new c.requires.awaits
+    (λ is room. let no = c.if-is_next.false in let yes = c.is_next.ensures.1 (is, node_below p c.args.number (subst (λ n. n < length (shape_of p).nodes) (sym is) room)) in cc)
+    canon

@@ -1,69 +1,32 @@
-use Rattle.std.proofs.Common.{◌≡◌, ◌+◌, ◌<◌, ◌≤◌, List, [], ◌∷◌, get_or, length, subst, sym, arith}
+use Rattle.std.proofs.Common.{arith}
 use Rattle.std.specs.Prelude.{reverse}
-use Rattle.hessian_graph.specs.declared.parts.Parts.{Parts}
-use Rattle.hessian_graph.specs.declared.value.Value.{Value}
-use Rattle.hessian_graph.specs.declared.value.Value.TheVariants as values
-use Rattle.hessian_graph.specs.Shape.{Kind, Shape, shape_of, no_vertex, values_at, values_of, kind_at, kind_of}
-use Rattle.graph_notation.specs.declared.press.Press.{Press}
-use Rattle.graph_notation.specs.declared.press.Step.{Step}
-use Rattle.graph_notation.specs.Pressing.{Prints, before, end_of}
-use Rattle.graph_notation.proofs.Printing.{step_below, indexed, there_here, kind_here, values_here, step_fits, awaits_step, awaits_top, pressed_end, work_further}
+use Rattle.hessian_graph.specs.Shape.{shape_of}
+use Rattle.graph_notation.proofs.Printing.{step_below, indexed, same_work}
 use Rattle.graph_notation.proofs.press.Press.go_on.Goals as goal
 
 pub bounds-as_slice-step : goal.bounds-as_slice-step
 bounds-as_slice-step c = rw c.as_slice.ensures (step_below c.args.parts.now c.args.self.now.out.items c.args.self.now.begun c.args.self.now.roots c.args.step (reverse c.args.self.now.stack.items) c.requires.pressed)
 
-pub write_before-requires-clause-there : goal.write_before-requires-clause-there
-write_before-requires-clause-there c =
-    let p : Parts = c.args.parts.now in
-    let g : Shape = shape_of p in
-    let s : Press = c.args.self.now in
-    let t : Step = c.args.step in
-    let below = step_below p s.out.items s.begun s.roots t (reverse s.stack.items) c.requires.pressed in
-    let here : c.index-as_slice-step.result ≡ get_or p.nodes t.node no_vertex = indexed c.as_slice.result.now p.nodes t.node c.index-as_slice-step.result c.index-as_slice-step.is c.as_slice.ensures below in
-    there_here p t.node c.index-as_slice-step.result c.requires.ready below here
+pub leaves-requires-clause-below : goal.leaves-requires-clause-below
+leaves-requires-clause-below c = step_below c.args.parts.now c.args.self.now.out.items c.args.self.now.begun c.args.self.now.roots c.args.step (reverse c.args.self.now.stack.items) c.requires.pressed
 
-pub value-requires-clause-awaits : goal.value-requires-clause-awaits
-value-requires-clause-awaits c =
-    let p : Parts = c.args.parts.now in
-    let g : Shape = shape_of p in
-    let s : Press = c.args.self.now in
-    let t : Step = c.args.step in
-    let below = step_below p s.out.items s.begun s.roots t (reverse s.stack.items) c.requires.pressed in
-    let here : c.index-as_slice-step.result ≡ get_or p.nodes t.node no_vertex = indexed c.as_slice.result.now p.nodes t.node c.index-as_slice-step.result c.index-as_slice-step.is c.as_slice.ensures below in
-    let vs : values_at g t.node ≡ values_of c.index-as_slice-step.result = values_here p t.node c.index-as_slice-step.result here in
-    let kind : kind_at g t.node ≡ kind_of p.types p.classes c.index-as_slice-step.result = kind_here p t.node c.index-as_slice-step.result here in
-    let within : t.at < length (values_at g t.node) = subst (λ (xs : List Value). t.at < length xs) (sym vs) c.in-Some.ensures.within in
-    let some : c.in-Some.value.now ≡ get_or (values_at g t.node) t.at values.Null = subst (λ (xs : List Value). c.in-Some.value.now ≡ get_or xs t.at values.Null) (sym vs) c.in-Some.ensures.some in
-    let prints = subst (λ (k : Kind). Prints s.out.items (before k t.at) c.write_before.new.out.items) (sym kind) c.in_ok-write_before-in-Some.ensures in
-    awaits_top g c.in-Some.value.now c.write_before.new.out.items s.begun s.roots (record { node = t.node; at = t.at + 1 }) c.push.new.self.items s.stack.items c.in_ok-push-in-Some.ensures.items
-    (awaits_step g s.out.items c.write_before.new.out.items s.begun s.roots t (reverse s.stack.items) c.in-Some.value.now (step_fits p s.out.items s.begun s.roots t (reverse s.stack.items) c.requires.ready c.requires.pressed) within some c.requires.pressed prints)
+pub leaves-requires-clause-here : goal.leaves-requires-clause-here
+leaves-requires-clause-here c =
+    let below = step_below c.args.parts.now c.args.self.now.out.items c.args.self.now.begun c.args.self.now.roots c.args.step (reverse c.args.self.now.stack.items) c.requires.pressed in
+    indexed c.as_slice.result.now c.args.parts.now.nodes c.args.step.node c.index-as_slice-step.result c.index-as_slice-step.is c.as_slice.ensures below
 
-pub returns-in_ok-value-in-Some-clause-work : goal.returns-in_ok-value-in-Some-clause-work
-returns-in_ok-value-in-Some-clause-work c =
-    let p : Parts = c.args.parts.now in
-    let g : Shape = shape_of p in
-    let s : Press = c.args.self.now in
-    let t : Step = c.args.step in
-    let below = step_below p s.out.items s.begun s.roots t (reverse s.stack.items) c.requires.pressed in
-    let here : c.index-as_slice-step.result ≡ get_or p.nodes t.node no_vertex = indexed c.as_slice.result.now p.nodes t.node c.index-as_slice-step.result c.index-as_slice-step.is c.as_slice.ensures below in
-    let vs : values_at g t.node ≡ values_of c.index-as_slice-step.result = values_here p t.node c.index-as_slice-step.result here in
-    let kind : kind_at g t.node ≡ kind_of p.types p.classes c.index-as_slice-step.result = kind_here p t.node c.index-as_slice-step.result here in
-    let within : t.at < length (values_at g t.node) = subst (λ (xs : List Value). t.at < length xs) (sym vs) c.in-Some.ensures.within in
-    let less = work_further g t s.stack.items c.push.new.self.items within c.in_ok-push-in-Some.ensures.items in
-    let done = c.in_ok-value-in-Some.ensures.work in
-    omega (arith, less, done)
+pub turn-requires-clause-below : goal.turn-requires-clause-below
+turn-requires-clause-below c = step_below c.args.parts.now c.args.self.now.out.items c.args.self.now.begun c.args.self.now.roots c.args.step (reverse c.args.self.now.stack.items) c.requires.pressed
 
-pub returns-in_ok-write_end-in-None-clause-pressed : goal.returns-in_ok-write_end-in-None-clause-pressed
-returns-in_ok-write_end-in-None-clause-pressed c =
-    let p : Parts = c.args.parts.now in
-    let g : Shape = shape_of p in
-    let s : Press = c.args.self.now in
-    let t : Step = c.args.step in
-    let below = step_below p s.out.items s.begun s.roots t (reverse s.stack.items) c.requires.pressed in
-    let here : c.index-as_slice-step.result ≡ get_or p.nodes t.node no_vertex = indexed c.as_slice.result.now p.nodes t.node c.index-as_slice-step.result c.index-as_slice-step.is c.as_slice.ensures below in
-    let vs : values_at g t.node ≡ values_of c.index-as_slice-step.result = values_here p t.node c.index-as_slice-step.result here in
-    let kind : kind_at g t.node ≡ kind_of p.types p.classes c.index-as_slice-step.result = kind_here p t.node c.index-as_slice-step.result here in
-    let past : length (values_at g t.node) ≤ t.at = subst (λ (xs : List Value). length xs ≤ t.at) (sym vs) c.in-None.ensures.none in
-    let prints = subst (λ (k : Kind). Prints s.out.items (end_of k ∷ []) c.write_end.new.out.items) (sym kind) c.in_ok-write_end-in-None.ensures in
-    pressed_end g s.out.items c.write_end.new.out.items s.begun s.roots t (reverse s.stack.items) (step_fits p s.out.items s.begun s.roots t (reverse s.stack.items) c.requires.ready c.requires.pressed) past c.requires.pressed prints
+pub turn-requires-clause-here : goal.turn-requires-clause-here
+turn-requires-clause-here c =
+    let below = step_below c.args.parts.now c.args.self.now.out.items c.args.self.now.begun c.args.self.now.roots c.args.step (reverse c.args.self.now.stack.items) c.requires.pressed in
+    indexed c.as_slice.result.now c.args.parts.now.nodes c.args.step.node c.index-as_slice-step.result c.index-as_slice-step.is c.as_slice.ensures below
+
+pub returns-clause-work : goal.returns-clause-work
+returns-clause-work c =
+    let told = c.in_ok-at.ensures {u = tt} in
+    let same = same_work (shape_of c.args.parts.now) c.leaves.new.self c.args.self.now told.same.0 told.same.1 in
+    let low = told.further in
+    let done = c.in_ok-turn.ensures.work in
+    omega (arith, same, low, done)

@@ -3,7 +3,7 @@ use Rattle.std.proofs.lemmas.Result.{err_from_is_err_and}
 use Rattle.graph_notation.specs.declared.fault.TheConstants.{NODE_LIMIT}
 use Rattle.graph_notation.specs.View.{state_of}
 use Rattle.graph_notation.proofs.Advance.{slice_at, token_read, token_refused, token_unread, no_room}
-use Rattle.graph_notation.proofs.reading.read_token.Goals as goal
+use Rattle.graph_notation.proofs.reading.read_longer.Goals as goal
 
 pub returns-in-Ok-clause-read : goal.returns-in-Ok-clause-read
 returns-in-Ok-clause-read c =

@@ -1,0 +1,44 @@
+-- Numbers that are read digit by digit.
+use Rattle.std.proofs.Common.{◌≡◌, ◌≢◌, ℕ, ℤ, pos, ◌+◌, ◌*◌, ◌/◌, ◌%◌, ◌<◌, ◌≤◌, ◌^◌, List, [], ◌∷◌, ◌++◌, length, get_or, take, ap, sym, ◌∙◌, subst, arith, add-one}
+use Rattle.std.specs.Prelude.{decimal}
+use Rattle.std.specs.Fmt.{signed_decimal}
+use Rattle.std.specs.Int.{w32}
+use Rattle.std.specs.Int.RustNames.{FitsSigned}
+use Rattle.std.proofs.lemmas.Fmt.{decimal_digit, decimal_step, decimal_injective, signed_decimal_injective}
+use Rattle.std.proofs.lemmas.List.{take_all}
+use Rattle.std.proofs.Math.Seq.{take-suc}
+
+decimal_push : (v d : ℕ) → 0 < v → d < 10 → v * 10 + d < 2 ^ 64 → decimal (v * 10 + d) ≡ decimal v ++ (0x30 + d) ∷ []
+decimal_push v d p l f =
+    let q : (v * 10 + d) / 10 ≡ v = omega arith in
+    let r : (v * 10 + d) % 10 ≡ d = omega arith in
+    decimal_step (v * 10 + d) (omega arith) f ∙ ap (λ x. decimal x ++ (48 + (v * 10 + d) % 10) ∷ []) q ∙ ap (λ x. decimal v ++ (48 + x) ∷ []) r
+
+pub one_zero : (bytes : List ℕ) (d : ℕ) → length bytes ≡ 1 → get_or bytes 0 0 ≡ 0x30 + d → d ≡ 0 → bytes ≡ decimal 0
+one_zero [] d n e z = absurd (omega arith)
+one_zero (b ∷ []) d n e z = ap (λ x. x ∷ []) (e ∙ ap (λ x. 0x30 + x) z) ∙ sym (decimal_digit 0 (omega arith))
+one_zero (b ∷ c ∷ more) d n e z = absurd (omega arith)
+
+pub first_digit : (bytes : List ℕ) (d : ℕ) → 0 < length bytes → d < 10 → get_or bytes 0 0 ≡ 0x30 + d → take 1 bytes ≡ decimal d
+first_digit [] d h l e = absurd (omega arith)
+first_digit (b ∷ bs) d h l e = ap (λ x. x ∷ []) e ∙ sym (decimal_digit d l)
+
+pub digit_more : (bytes : List ℕ) (at v d : ℕ) → at < length bytes → take at bytes ≡ decimal v → 0 < v → d < 10 → get_or bytes at 0 ≡ 0x30 + d → v < 100000000000000000 → take (at + 1) bytes ≡ decimal (v * 10 + d)
+digit_more bytes at v d h before p l e f =
+    ap (λ n. take n bytes) (add-one at) ∙ take-suc bytes at 0 h
+    ∙ ap (λ x. x ++ get_or bytes at 0 ∷ []) before ∙ ap (λ b. decimal v ++ b ∷ []) e
+    ∙ sym (decimal_push v d p l (omega arith))
+
+pub all_digits : (bytes : List ℕ) (at v : ℕ) → length bytes ≤ at → take at bytes ≡ decimal v → bytes ≡ decimal v
+all_digits bytes at v h e = sym (take_all at bytes h) ∙ e
+
+pub too_large : (n : ℕ) (bytes : List ℕ) → n < 1000000000000000000 → bytes ≡ decimal n → 2147483648 ≤ n → (z : ℤ) → FitsSigned w32 z → bytes ≢ signed_decimal z
+too_large n bytes small is high z fits same =
+    let e : pos n ≡ z = signed_decimal_injective (pos n) z (omega arith) (omega arith) (sym is ∙ same) in
+    let f : FitsSigned w32 (pos n) = subst (FitsSigned w32) (sym e) fits in
+    omega arith
+
+pub too_high : (n : ℕ) (bytes : List ℕ) → n < 1000000000000000000 → bytes ≡ decimal n → 4294967296 ≤ n → (k : ℕ) → k < 2 ^ 32 → bytes ≢ decimal k
+too_high n bytes small is high k fits same =
+    let e : n ≡ k = decimal_injective n k (omega arith) (omega arith) (sym is ∙ same) in
+    omega arith
