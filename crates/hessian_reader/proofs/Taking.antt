@@ -6,6 +6,7 @@ use Rattle.hessian_reader.specs.declared.element.Element.{Element}
 use Rattle.hessian_reader.specs.declared.element.Want.{Want}
 use Rattle.hessian_reader.specs.declared.fault.HessianFault.{HessianFault}
 use Rattle.hessian_reader.specs.declared.lexer.Inside.{Inside}
+use Rattle.hessian_reader.specs.declared.lexer.Inside.TheVariants as insides
 use Rattle.hessian_reader.specs.declared.fault.HessianFault.TheVariants.{OutOfMemory}
 use Rattle.hessian_reader.specs.declared.stop.Stop.{Stop}
 use Rattle.hessian_reader.specs.declared.stop.Stop.TheVariants.{NoMemory, Objects}
@@ -44,3 +45,9 @@ no_end_here w inside (c ∷ cs) x small holds ends =
 pub ends_later : (w : Want) (inside : Inside) (came piece : List ℕ) (used : ℕ) (x : Element) → AreBytes came → Holds w inside came → IsElement w (came ++ take used piece) x → 0 < used
 ends_later w inside came piece zero x small holds ends = absurd (no_end_here w inside came x small holds (subst (λ bytes. IsElement w bytes x) (append-nil came) ends))
 ends_later w inside came piece (suc n) x small holds ends = omega arith
+
+-- where nothing of an element came, its bytes are those of the piece
+pub begun_anew : (w : Want) (inside : Inside) (came bytes : List ℕ) (x : Element) → inside ≡ insides.Nothing → Holds w inside came → IsElement w bytes x → IsElement w (came ++ bytes) x
+begun_anew w inside came bytes x nothing holds is =
+    let none : came ≡ [] = subst (λ (i : Inside). Holds w i came) nothing holds in
+    subst (λ bs. IsElement w (bs ++ bytes) x) (sym none) is

@@ -1,8 +1,9 @@
 //! One element, from bytes that come in pieces.
 
-ghost use Rattle.std.specs.Prelude.{◌≡◌, ◌<◌, ◌++◌, ℕ, List, [], length, slice_index, IfOk};
+ghost use Rattle.std.specs.Prelude.{◌≡◌, ◌<◌, ◌≤◌, ◌++◌, ℕ, List, [], length, slice_index, take, true, IfOk, IfSome};
 ghost use Rattle.hessian_text.specs.Spelling.{AreBytes};
 ghost use Rattle.hessian_reader.specs.Codes.{head_of, kind_of, value_of, scalar_element, chunk_element};
+ghost use Rattle.hessian_reader.specs.Elements.{IsElement};
 ghost use Rattle.hessian_reader.specs.Lexing.{Holds, IsWithin, Lexes};
 ghost use Rattle.hessian_reader.specs.Refusing.{RefusesByte};
 ghost use Rattle.hessian_reader.specs.Starting.{LeadsChunks, LeadsScalar};
@@ -124,6 +125,35 @@ fn chunk_element(want: Want, chunks: Chunks) -> Element
     }
 }
 
+/// A scalar that lies whole at the front of a piece, as a value, and behind how many bytes it ends.
+fn scalar_at_once(piece: &[u8]) -> Option<(Value, usize)>
+    ensures within { IfSome result (λ p. p.1 ≤ length piece.now) }
+    ensures is { IfSome result (λ p. IsElement Want.AnyValue (take p.1 piece.now) (Element.Plain p.0)) }
+{
+    let mut reader = ScalarReader::new();
+    match reader.feed(piece) {
+        Front::Whole(scalar, used) => Some((value_of(scalar), used)),
+        _ => None,
+    }
+}
+
+/// A code or a scalar that lies whole at the front of a piece, in a value's place, and behind how many bytes it ends.
+fn value_at_once(piece: &[u8]) -> Option<(Element, usize)>
+    ensures within { IfSome result (λ p. p.1 ≤ length piece.now) }
+    ensures is { IfSome result (λ p. IsElement Want.AnyValue (take p.1 piece.now) p.0) }
+{
+    let [code, ..] = *piece else {
+        return None;
+    };
+    if let Some(head) = head_of(code) {
+        return Some((Element::Code(head), 1));
+    }
+    match scalar_at_once(piece) {
+        Some((value, used)) => Some((Element::Plain(value), used)),
+        None => None,
+    }
+}
+
 impl Lexer {
     /// An element of which nothing came.
     pub fn new(want: Want) -> Lexer
@@ -133,6 +163,31 @@ impl Lexer {
         Lexer {
             want,
             inside: Inside::Nothing,
+        }
+    }
+
+    /// Whether a value or a code is to come, and nothing of it came.
+    fn is_fresh(&self) -> bool
+        ensures nothing { result ≡ true → self.now.inside ≡ Inside.Nothing }
+        ensures any { result ≡ true → self.now.want ≡ Want.AnyValue }
+    {
+        match (&self.inside, self.want) {
+            (Inside::Nothing, Want::AnyValue) => true,
+            _ => false,
+        }
+    }
+
+    /// The element that lies whole at the front of a piece, where that is told at once, and behind how many bytes it ends.
+    pub fn at_once(&self, piece: &[u8]) -> Option<(Element, usize)>
+        ensures nothing { IfSome result (λ _. self.now.inside ≡ Inside.Nothing) }
+        ensures any { IfSome result (λ _. self.now.want ≡ Want.AnyValue) }
+        ensures within { IfSome result (λ p. p.1 ≤ length piece.now) }
+        ensures is { IfSome result (λ p. IsElement self.now.want (take p.1 piece.now) p.0) }
+    {
+        if self.is_fresh() {
+            value_at_once(piece)
+        } else {
+            None
         }
     }
 

@@ -5,13 +5,14 @@ ghost use Rattle.hessian_reader.specs.declared.stop.Objection.{Objection as Obje
 ghost use Rattle.hessian_reader.specs.Faults.{cause_of};
 ghost use Rattle.hessian_reader.specs.Refusing.{fault_of};
 
-use crate::element::Element;
+use crate::element::{Element, Want};
 use crate::fault::HessianFault;
 use crate::finish::graph_of;
-use crate::lexer::{Lexed, Lexer};
+use crate::lexer::{Inside, Lexed, Lexer};
+use crate::place::Place;
 use crate::stop::{Objection, Stop};
 use crate::work::Work;
-use hessian_graph::Graph;
+use hessian_graph::{Graph, Value};
 use std::alloc::Global;
 
 /// What a piece did.
@@ -167,6 +168,27 @@ impl GraphReader {
             → Nexts self.old at came piece.now self.new result }
         ensures why { IfErr result (λ fault. fault ≢ HessianFault.OutOfMemory → StopsIn self.old at piece.now fault) }
     {
+        match self.lexer.at_once(piece) {
+            Some((element, used)) => {
+                self.take_here(element)?;
+                self.from = at + used;
+                Ok(Some(used))
+            }
+            None => self.next_by_bytes(at, piece),
+        }
+    }
+
+    /// The same, by way of the bytes that came of the element.
+    fn next_by_bytes(&mut self, at: usize, piece: &[u8]) -> Result<Option<usize>, HessianFault>
+        requires open { is_done (state_of self.old.work) ≡ false }
+        requires some { 0 < length piece.now }
+        requires room { at + length piece.now ≤ usize.MAX }
+        ensures same { (self.new.fed ≡ self.old.fed) × (self.new.refused ≡ self.old.refused) }
+        ensures within { IfOk result (λ end. IfSome end (λ used. used ≤ length piece.now)) }
+        ensures nexts { (came : List ℕ) → AreBytes came → self.old.lexer.want ≡ want_at self.old.work.place → Holds self.old.lexer.want self.old.lexer.inside came
+            → Nexts self.old at came piece.now self.new result }
+        ensures why { IfErr result (λ fault. fault ≢ HessianFault.OutOfMemory → StopsIn self.old at piece.now fault) }
+    {
         let alloc = self.work.store.alloc;
         match self.lexer.feed(alloc, piece)? {
             Lexed::More => Ok(None),
@@ -186,6 +208,36 @@ impl GraphReader {
             Lexed::NoText(place, begun) => Err(HessianFault::BadText {
                 at: (at + place).saturating_sub(begun),
             }),
+        }
+    }
+
+    /// Takes a whole element of which nothing came before, and waits for the next.
+    fn take_here(&mut self, element: Element) -> Result<(), HessianFault>
+        requires nothing { self.old.lexer.inside ≡ Inside.Nothing }
+        requires any { self.old.lexer.want ≡ Want.AnyValue }
+        ensures same { (self.new.fed ≡ self.old.fed) × (self.new.refused ≡ self.old.refused) }
+        ensures took { Took (state_of self.old.work) element self.new result }
+        ensures why { IfErr result (λ fault. fault ≢ HessianFault.OutOfMemory
+            → (o : Objections) × (take_element (state_of self.old.work) element ≡ Err o) × (fault ≡ fault_of (cause_of o self.old.from))) }
+    {
+        match element {
+            Element::Plain(value) if self.work.is_at_value() => self.give_here(value),
+            _ => self.take(element),
+        }
+    }
+
+    /// Takes a leaf where a value is all that may stand, and waits for the next.
+    fn give_here(&mut self, value: Value) -> Result<(), HessianFault>
+        requires nothing { self.old.lexer.inside ≡ Inside.Nothing }
+        requires any { self.old.lexer.want ≡ Want.AnyValue }
+        requires here { self.old.work.place ≡ Place.AtValue }
+        ensures same { (self.new.fed ≡ self.old.fed) × (self.new.refused ≡ self.old.refused) }
+        ensures took { Took (state_of self.old.work) (Element.Plain value) self.new result }
+        ensures why { IfErr result (λ fault. fault ≡ HessianFault.OutOfMemory) }
+    {
+        match self.work.plain_here(value) {
+            Ok(()) => Ok(()),
+            Err(_) => Err(HessianFault::OutOfMemory),
         }
     }
 

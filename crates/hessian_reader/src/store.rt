@@ -10,6 +10,9 @@ use hessian_graph::{Items, Value};
 use std::alloc::{AllocError, Global};
 use std::marker::Model;
 
+/// The most values for which the first one of a node takes room.
+const FIRST_ROOM: usize = 8;
+
 /// The values of a node, as far as they came. A map's keys and values come alternately.
 #[derive(Drop)]
 pub struct Growing {
@@ -35,10 +38,13 @@ impl Growing {
         }
     }
 
-    /// Adds a value.
-    pub fn push(&mut self, value: Value) -> Result<(), AllocError>
+    /// Adds a value. The first takes room for so many, but for no more than eight.
+    pub fn push(&mut self, value: Value, room: usize) -> Result<(), AllocError>
         ensures { OnOk result (self.new ≡ self.old ++ value ∷ []) }
     {
+        if self.inner.is_empty() {
+            self.inner.reserve_exact(room.min(FIRST_ROOM))?;
+        }
         self.inner.push(value)?;
         Ok(())
     }
@@ -139,6 +145,14 @@ fn after_value(lacking: OpenNode) -> Option<OpenNode>
     }
 }
 
+/// How many values are lacking, or 0 where that isn't known.
+fn known_count(lacks: Lacks) -> usize {
+    match lacks {
+        Lacks::Count(left) => left,
+        _ => 0,
+    }
+}
+
 impl Store {
     /// No values, of which so many roots are wanted.
     pub fn new(alloc: Global, wanted: u32) -> Store
@@ -153,13 +167,13 @@ impl Store {
         }
     }
 
-    /// Adds a value to the node of this number.
-    fn put(&mut self, node: u32, value: Value) -> Result<(), AllocError>
+    /// Adds a value to the node of this number, which still lacks so many where that is known.
+    fn put(&mut self, node: u32, value: Value, room: usize) -> Result<(), AllocError>
         ensures { OnOk result (built_of self.new ≡ record (built_of self.old) { nodes = with_item self.old.nodes.items node value }) }
     {
         let place = node as usize;
         if place < self.nodes.len() {
-            self.nodes[place].values.push(value)?;
+            self.nodes[place].values.push(value, room)?;
         }
         Ok(())
     }
@@ -174,7 +188,7 @@ impl Store {
                 self.wanted = self.wanted.saturating_sub(1);
             }
             Some(innermost) => {
-                self.put(innermost.node, value)?;
+                self.put(innermost.node, value, known_count(innermost.lacks))?;
                 if let Some(lacking) = after_value(innermost) {
                     self.open_nodes.push(lacking)?;
                 }

@@ -243,6 +243,25 @@ fn each_refusal_has_its_place(rt: HostRuntime) {
 }
 
 #[test]
+fn a_stated_length_takes_no_memory(rt: HostRuntime) {
+    let alloc = rt.alloc();
+    // 2,147,483,647 values or fields are stated, for which no machine has room, and none or a few came.
+    let stated = [
+        (b"\x58\x49\x7f\xff\xff\xff".as_slice(), 6),
+        (b"\x58\x49\x7f\xff\xff\xff\x91", 7),
+        (b"\x58\x49\x7f\xff\xff\xff\x91\x01a\x78", 10),
+        (b"\x56\x00\x49\x7f\xff\xff\xff\x91", 8),
+        (b"\x43\x00\x49\x7f\xff\xff\xff\x01a", 9),
+    ];
+    for (bytes, at) in stated {
+        assert_eq!(rt;
+            read_graph(alloc, bytes, 1).err(),
+            Some(HessianFault::Short { at })
+        );
+    }
+}
+
+#[test]
 fn a_million_nested_lists_are_read(rt: HostRuntime) -> Result<(), Fail> {
     let alloc = rt.alloc();
     let mut bytes = Vec::new(alloc);

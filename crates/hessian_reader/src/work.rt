@@ -1,6 +1,6 @@
 //! The state of a reading between two elements.
 
-ghost use Rattle.std.specs.Prelude.{◌≡◌, ◌++◌, ◌∷◌, ◌<◌, [], length, Ok, Some, OnOk};
+ghost use Rattle.std.specs.Prelude.{◌≡◌, ◌++◌, ◌∷◌, ◌<◌, [], length, true, Ok, Some, OnOk};
 ghost use Rattle.hessian_reader.specs.Leaves.{node_limit};
 ghost use Rattle.hessian_reader.specs.States.{start, begins_node, takes_value, moves_to, learns_type, awaits_fields, want_at, is_done};
 ghost use Rattle.hessian_reader.specs.Steps.{natural_of, at_value, may_end, end_step, behind_type, class_step, reference_step, type_step, length_step, count_step, number_step, words_step, node_step, header_step, head_step, take_element};
@@ -315,6 +315,23 @@ impl Work {
         }
         self.give(value)?;
         Ok(())
+    }
+
+    /// Takes a leaf in a value's place, where a value is all that may stand there.
+    pub fn plain_here(&mut self, value: Value) -> Result<(), AllocError>
+        requires { self.old.place ≡ Place.AtValue }
+        ensures taken { OnOk result (take_element (state_of self.old) (Element.Plain value) ≡ Ok (state_of self.new)) }
+        ensures place { self.new.place ≡ Place.AtValue }
+    {
+        self.store.give(value)?;
+        Ok(())
+    }
+
+    /// Whether a value may stand next, and no class comes before it.
+    pub fn is_at_value(&self) -> bool
+        ensures { result ≡ true → self.now.place ≡ Place.AtValue }
+    {
+        matches!(self.place, Place::AtValue)
     }
 
     /// Takes a code in a value's place.
