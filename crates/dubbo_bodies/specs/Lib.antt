@@ -7,3 +7,15 @@ pub mod ReplyBody
 pub mod Refusals
 pub mod WrittenBody
 pub mod CanonBody
+pub mod FedBody
+pub mod RefusedReply
+pub mod FaultTexts
+pub mod RequestReading
+pub mod AttachmentsRead
+pub mod RequestStages
+pub mod RootsRead
+pub mod RequestInside
+pub mod FaultsBehind
+pub mod ReplyKinds
+pub mod ReplyStages
+pub mod ReplyFaults
