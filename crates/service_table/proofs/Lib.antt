@@ -1,0 +1,12 @@
+pub mod Extending
+pub mod CanonForms
+pub mod Closed
+pub mod Writing
+pub mod Alike
+pub mod Names
+pub mod Equality
+pub mod Totals
+pub mod Grown
+pub mod Outcomes
+pub mod Statuses
+pub mod Reversing
