@@ -1,0 +1,16 @@
+pub mod Lower
+pub mod Cutting
+pub mod LineCuts
+pub mod Piecing
+pub mod Fielding
+pub mod Wording
+pub mod Numerals
+pub mod Sizing
+pub mod Directing
+pub mod Weighing
+pub mod Saying
+pub mod Arguing
+pub mod Calling
+pub mod Scripting
+pub mod ScriptLaws
+pub mod Telling

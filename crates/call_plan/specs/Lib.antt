@@ -1,0 +1,9 @@
+pub mod Words
+pub mod LineForms
+pub mod Pieces
+pub mod Progress
+pub mod Size
+pub mod ScriptLines
+pub mod ScriptReading
+pub mod ResultLine
+pub mod DirectTranscript
