@@ -1,0 +1,6 @@
+pub mod Answers
+pub mod Asked
+pub mod Replies
+pub mod Serving
+pub mod Turns
+pub mod Writes
