@@ -1,7 +1,13 @@
 pub mod Decoding
+pub mod Directing
 pub mod Encoding
 pub mod FaultLines
 pub mod FaultTexts
+pub mod Finding
+pub mod FrameLines
+pub mod Framing
+pub mod GeneratedScript
+pub mod Generating
 pub mod Input
 pub mod PlainCommands
 pub mod PlainStatuses

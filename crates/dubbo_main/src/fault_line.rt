@@ -1,10 +1,11 @@
 //! The line that a run prints where it does not do its work, or where its input is damaged. Making it takes no memory.
-ghost use Rattle.std.specs.Prelude.{◌≡◌, ◌+◌, ◌≤◌, ◌++◌, length, decimal};
-ghost use Rattle.dubbo_main.specs.FaultLines.{not_built_line, input_line};
+ghost use Rattle.std.specs.Prelude.{◌≡◌, ◌≢◌, ◌+◌, ◌≤◌, ◌++◌, length, decimal, MatchOption};
+ghost use Rattle.dubbo_main.specs.FaultLines.{not_built_line, input_line, refused_line, script_line};
 ghost use Rattle.dubbo_main.specs.RingLines.{damaged_line};
 
 use crate::commands::Damage;
 use arrayvec::ArrayString;
+use call_plan::ScriptFault;
 use itoa::Buffer;
 
 /// The line for words that have no reading.
@@ -24,6 +25,30 @@ pub fn not_built(line: u32) -> NumberLine
     ensures { result.bytes ≡ not_built_line line }
 {
     around("fault script ", u64::from(line), " not built\n")
+}
+
+/// The line of bytes that are no script, or none for want of memory.
+pub fn refused_script(fault: ScriptFault) -> Option<NumberLine>
+    ensures { MatchOption result (fault ≡ ScriptFault.OutOfMemory)
+        (λ line. (fault ≢ ScriptFault.OutOfMemory) × (line.bytes ≡ script_line fault)) }
+{
+    match fault {
+        ScriptFault::BadLine { line } => Some(refused(line, "bad line")),
+        ScriptFault::TooManyCalls { line } => Some(refused(line, "too many calls")),
+        ScriptFault::TooLarge { line } => Some(refused(line, "too large")),
+        ScriptFault::OutOfMemory => None,
+    }
+}
+
+/// The line for a script whose line with this number, counted from 1, is refused for this cause.
+fn refused(line: u32, cause: &str) -> NumberLine
+    requires { length cause.now ≤ 14 }
+    ensures { result.bytes ≡ refused_line line cause.now }
+{
+    let mut text = around("fault script ", u64::from(line), " ");
+    text.push_str(cause);
+    text.push_str("\n");
+    text
 }
 
 /// The line for an input that failed so often.

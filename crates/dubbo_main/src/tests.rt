@@ -1,6 +1,8 @@
 //! Whole runs, a file for each command.
 
 mod codec;
+mod direct;
+mod frames;
 mod play;
 mod ring;
 

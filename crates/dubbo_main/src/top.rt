@@ -3,21 +3,24 @@ ghost use Rattle.std.specs.Prelude.{◌≡◌, ℕ, ◌+◌, ◌<◌, ◌⊎◌,
 ghost use Rattle.dubbo_main.specs.Words.{HasNoReading, IsPlay, Names};
 ghost use Rattle.dubbo_main.specs.Statuses.{Ends, Comes, IsExact};
 ghost use Rattle.dubbo_main.specs.PlayStatuses.{CallsFor, Plays};
-ghost use Rattle.dubbo_main.specs.PlainStatuses.{PlainCallsFor, WritesAnswer};
+ghost use Rattle.dubbo_main.specs.PlainStatuses.{PlainCallsFor, WritesAnswer, WritesGenerated};
 ghost use Rattle.dubbo_main.specs.PlainCommands.{status_of as answer_status, text_of};
 ghost use Rattle.dubbo_main.specs.Decoding.{DecodeAnswers};
+ghost use Rattle.dubbo_main.specs.Directing.{DirectAnswers};
+ghost use Rattle.dubbo_main.specs.Generating.{IsGenerated};
 ghost use Rattle.dubbo_main.specs.Encoding.{EncodeAnswers};
+ghost use Rattle.dubbo_main.specs.Framing.{FramesAnswers};
 ghost use Rattle.dubbo_main.specs.RingLines.{RingAnswers};
 ghost use Rattle.dubbo_main.specs.Input.{input_limit};
 ghost use Rattle.dubbo_main.specs.FaultLines.{memory_line};
 ghost use Rattle.dubbo_main.specs.PlayFault.{status_of, line_of};
 ghost use Rattle.dubbo_main.specs.Unread.{unread_status, unread_line};
-ghost use Rattle.dubbo_main.specs.declared.words.PlainCommand.TheVariants.{Decode, Encode, Ring};
+ghost use Rattle.dubbo_main.specs.declared.words.PlainCommand.TheVariants.{Decode, Direct, Encode, Frames, Gen, Ring};
 
-use crate::commands::{Answer, PlayFault, answer_whole, play};
+use crate::commands::{Answer, PlayFault, answer_whole, generated, play};
 use crate::fault_line::{MEMORY_LINE, TOO_LONG_LINE, WORDS_LINE, input_failed, not_built};
 use crate::input::INPUT_LIMIT;
-use crate::words::{are_play, plain_command};
+use crate::words::{Show, are_play, made_by, plain_command};
 use dubbo_io::{ReadFault, Sink, Source, read_all, write_all};
 use std::alloc::{AllocError, Global};
 
@@ -64,8 +67,9 @@ pub fn run<I: Source, O: Sink>(
 ///
 /// | Status | Comes |
 /// |---|---|
-/// | 0 | the command took its whole input, and its answer is written |
+/// | 0 | the command took its whole input, which `gen` does not read, and its answer is written |
 /// | 1 | the words call for no such command |
+/// | 2 | the script was refused |
 /// | 3 | the input failed |
 /// | 4 | the output failed, in place of any other status whose text couldn't be written |
 /// | 6 | there was no memory |
@@ -89,11 +93,18 @@ pub fn run_plain<I: Source, O: Sink>(
     ensures too_long { (I.state input.old).count + input_limit < (I.state input.new).count
         → (result ≡ 7) ⊎ (result ≡ 4) }
 
-    // What each command writes at status 0 and 8.
+    // What each command writes at status 0, 2 and 8.
     ensures decode { (roots : ℕ) → Names (map string_bytes words.now.items) (Decode roots)
         → WritesAnswer (DecodeAnswers roots)
         (I.state input.old) (I.state input.new) (O.state output.old) (O.state output.new) result }
+    ensures direct { Names (map string_bytes words.now.items) Direct → WritesAnswer DirectAnswers
+        (I.state input.old) (I.state input.new) (O.state output.old) (O.state output.new) result }
     ensures encode { Names (map string_bytes words.now.items) Encode → WritesAnswer EncodeAnswers
+        (I.state input.old) (I.state input.new) (O.state output.old) (O.state output.new) result }
+    ensures frames { Names (map string_bytes words.now.items) Frames → WritesAnswer FramesAnswers
+        (I.state input.old) (I.state input.new) (O.state output.old) (O.state output.new) result }
+    ensures made { (calls : ℕ) (show : Show) → Names (map string_bytes words.now.items) (Gen calls show)
+        → WritesGenerated (IsGenerated calls show)
         (I.state input.old) (I.state input.new) (O.state output.old) (O.state output.new) result }
     ensures ring { Names (map string_bytes words.now.items) Ring → WritesAnswer RingAnswers
         (I.state input.old) (I.state input.new) (O.state output.old) (O.state output.new) result }
@@ -101,6 +112,9 @@ pub fn run_plain<I: Source, O: Sink>(
     let Some(command) = plain_command(words) else {
         return finish(output, WORDS_LINE.as_bytes(), 1);
     };
+    if let Some((calls, show)) = made_by(command) {
+        return tell_generated(output, generated(alloc, calls, show));
+    }
     match read_all(alloc, input, INPUT_LIMIT) {
         Ok(bytes) => tell_answer(output, answer_whole(alloc, command, &bytes)),
         Err(fault) => tell_unread(output, fault),
@@ -116,7 +130,21 @@ fn tell_answer<O: Sink>(output: &mut O, answer: Result<Answer, AllocError>) -> u
 {
     match answer {
         Ok(Answer::Done(text)) => finish(output, &text, 0),
+        Ok(Answer::Refused(text)) => finish(output, &text, 2),
         Ok(Answer::Damaged(text)) => finish(output, &text, 8),
+        Err(_) => without_memory(output),
+    }
+}
+
+/// Ends a run with what was made without an input.
+fn tell_generated<O: Sink>(output: &mut O, text: Result<Vec<u8>, AllocError>) -> u8
+    requires { (O.state output.old).open_to_all }
+    ensures { MatchResult text
+        (λ t. Ends (O.state output.old) (O.state output.new) 0 t.items result)
+        (λ _. Ends (O.state output.old) (O.state output.new) 6 memory_line result) }
+{
+    match text {
+        Ok(made) => finish(output, &made, 0),
         Err(_) => without_memory(output),
     }
 }

@@ -1,19 +1,35 @@
 //! The words of the command line.
 ghost use Rattle.std.specs.Prelude.{◌≡◌, ◌↔◌, ◌⊎◌, ◌<◌, [], IsTrue, MatchOption, codes, length, map, string_bytes};
+ghost use Rattle.dubbo_main.specs.PlainCommands.{ReadsInput};
 ghost use Rattle.dubbo_main.specs.Words.{Calls, HasNoReading, IsPlay, IsWaiting, Names};
 
-use crate::options::roots_of;
+use crate::options::{generated_of, roots_of};
 use std::alloc::{AllocError, Global};
 use std::env::{self, Env};
 use std::io::ErrorKind;
+
+/// What `gen` writes.
+#[derive(Clone, Copy, Debug, PartialEq, Eq)]
+pub enum Show {
+    /// What the direct calls of the script give, counted.
+    Summary,
+    /// The script itself.
+    Script,
+}
 
 /// A command that waits for nobody, with its options.
 #[derive(Clone, Copy, Debug, PartialEq, Eq)]
 pub enum PlainCommand {
     /// `decode`: from the bytes of so many roots to their notation.
     Decode { roots: u32 },
+    /// `direct`: the calls of a script are made directly, with no link.
+    Direct,
     /// `encode`: from the notation of a graph to its bytes.
     Encode,
+    /// `frames`: a line for each frame of a stream.
+    Frames,
+    /// `gen`: a script of so many calls is made, at most 4,096.
+    Gen { calls: u16, show: Show },
     /// `ring`: names come to a ring and leave it, and keys are given names.
     Ring,
 }
@@ -97,6 +113,10 @@ fn command_with(word: &str, options: &[String]) -> Option<PlainCommand>
         let roots = u32::from(roots_of(options)?);
         return Some(PlainCommand::Decode { roots });
     }
+    if word == "gen" {
+        let (calls, show) = generated_of(options)?;
+        return Some(PlainCommand::Gen { calls, show });
+    }
     None
 }
 
@@ -107,11 +127,31 @@ fn command_alone(word: &str) -> Option<PlainCommand>
     if word == "decode" {
         return Some(PlainCommand::Decode { roots: 1 });
     }
+    if word == "direct" {
+        return Some(PlainCommand::Direct);
+    }
     if word == "encode" {
         return Some(PlainCommand::Encode);
+    }
+    if word == "frames" {
+        return Some(PlainCommand::Frames);
     }
     if word == "ring" {
         return Some(PlainCommand::Ring);
     }
     None
+}
+
+/// The number of calls and what is shown, where the command makes a script and reads no input.
+pub fn made_by(command: PlainCommand) -> Option<(u16, Show)>
+    ensures { MatchOption result (ReadsInput command) (λ made. command ≡ PlainCommand.Gen made.0 made.1) }
+{
+    match command {
+        PlainCommand::Gen { calls, show } => Some((calls, show)),
+        PlainCommand::Decode { .. }
+        | PlainCommand::Direct
+        | PlainCommand::Encode
+        | PlainCommand::Frames
+        | PlainCommand::Ring => None,
+    }
 }

@@ -1,11 +1,13 @@
-use Rattle.std.proofs.Common.{refl, sym, subst, arith}
+use Rattle.std.proofs.Common.{refl, sym, subst, arith, map}
+use Rattle.std.specs.Prelude.{string_bytes}
+use Rattle.dubbo_main.specs.Words.{Names}
 use Rattle.dubbo_main.specs.FaultLines.{words_line}
 use Rattle.dubbo_main.specs.Input.{IsWhole}
 use Rattle.dubbo_main.specs.PlainStatuses.PlainCallsFor.{no_reading}
 use Rattle.dubbo_main.specs.Unread.{unread_status, unread_line}
-use Rattle.dubbo_main.specs.declared.words.PlainCommand.TheVariants.{Decode, Encode, Ring}
-use Rattle.dubbo_main.proofs.OnePlainStatus.{IsOneStatus-plain, WritesAnswer-Comes}
-use Rattle.dubbo_main.proofs.PlainRows.{Comes-answer, PlainCallsFor-unread}
+use Rattle.dubbo_main.specs.declared.words.PlainCommand.TheVariants.{Decode, Direct, Encode, Frames, Ring}
+use Rattle.dubbo_main.proofs.OnePlainStatus.{IsOneStatus-plain, WritesAnswer-Comes, WritesGenerated-Comes}
+use Rattle.dubbo_main.proofs.PlainRows.{Comes-answer, Comes-generated, PlainCallsFor-unread}
 use Rattle.dubbo_main.proofs.Statuses.{IsExact-Comes}
 use Rattle.dubbo_main.proofs.top.run_plain.Goals as goal
 
@@ -26,7 +28,21 @@ returns-in-Ok-clause-status g c =
 pub returns-in-Err-clause-status : goal.returns-in-Err-clause-status
 returns-in-Err-clause-status g c =
     let fault = c.in-Err.fault in
-    (unread_status fault, unread_line fault, PlainCallsFor-unread _ c.in-Some.command _ _ fault c.in-Some.ensures c.in-Err.ensures.refused, c.tell_unread.ensures)
+    (unread_status fault, unread_line fault, PlainCallsFor-unread _ c.in-Some.command _ _ fault c.in-Some.ensures c.in_default-made_by.ensures c.in-Err.ensures.refused, c.tell_unread.ensures)
+
+pub returns-in-Some-made_by-clause-status : goal.returns-in-Some-made_by-clause-status
+returns-in-Some-made_by-clause-status g c =
+    Comes-generated _ c.in-Some-made_by.calls c.in-Some-made_by.show _ _ _ c.generated.result c.tell_generated.result
+    (subst (λ command. Names (map string_bytes c.args.words.now.items) command) c.in-Some-made_by.ensures c.in-Some.ensures) c.generated.ensures c.tell_generated.ensures
+
+pub returns-in-Some-made_by-clause-exact : goal.returns-in-Some-made_by-clause-exact
+returns-in-Some-made_by-clause-exact g c = λ told. IsExact-Comes _ _ _ _ (IsOneStatus-plain _ _ _ told) (returns-in-Some-made_by-clause-status g c)
+
+pub returns-in-Some-made_by-clause-no_reading : goal.returns-in-Some-made_by-clause-no_reading
+returns-in-Some-made_by-clause-no_reading g c = λ none. absurd (none c.in-Some.command c.in-Some.ensures)
+
+pub returns-in-Some-made_by-clause-made : goal.returns-in-Some-made_by-clause-made
+returns-in-Some-made_by-clause-made g c = λ calls show named. WritesGenerated-Comes _ calls show _ _ _ _ _ named (returns-in-Some-made_by-clause-status g c)
 
 pub returns-in_default-clause-exact : goal.returns-in_default-clause-exact
 returns-in_default-clause-exact g c = λ told. IsExact-Comes _ _ _ _ (IsOneStatus-plain _ _ _ told) (returns-in_default-clause-status g c)
@@ -44,28 +60,55 @@ pub returns-in-Err-clause-no_reading : goal.returns-in-Err-clause-no_reading
 returns-in-Err-clause-no_reading g c = λ none. absurd (none c.in-Some.command c.in-Some.ensures)
 
 pub returns-in_default-clause-ring : goal.returns-in_default-clause-ring
-returns-in_default-clause-ring g c = λ named. WritesAnswer-Comes _ Ring _ _ _ _ _ named (returns-in_default-clause-status g c)
+returns-in_default-clause-ring g c = λ named. WritesAnswer-Comes _ Ring _ _ _ _ _ tt named (returns-in_default-clause-status g c)
 
 pub returns-in-Ok-clause-ring : goal.returns-in-Ok-clause-ring
-returns-in-Ok-clause-ring g c = λ named. WritesAnswer-Comes _ Ring _ _ _ _ _ named (returns-in-Ok-clause-status g c)
+returns-in-Ok-clause-ring g c = λ named. WritesAnswer-Comes _ Ring _ _ _ _ _ tt named (returns-in-Ok-clause-status g c)
 
 pub returns-in-Err-clause-ring : goal.returns-in-Err-clause-ring
-returns-in-Err-clause-ring g c = λ named. WritesAnswer-Comes _ Ring _ _ _ _ _ named (returns-in-Err-clause-status g c)
+returns-in-Err-clause-ring g c = λ named. WritesAnswer-Comes _ Ring _ _ _ _ _ tt named (returns-in-Err-clause-status g c)
 
 pub returns-in_default-clause-encode : goal.returns-in_default-clause-encode
-returns-in_default-clause-encode g c = λ named. WritesAnswer-Comes _ Encode _ _ _ _ _ named (returns-in_default-clause-status g c)
+returns-in_default-clause-encode g c = λ named. WritesAnswer-Comes _ Encode _ _ _ _ _ tt named (returns-in_default-clause-status g c)
 
 pub returns-in-Ok-clause-encode : goal.returns-in-Ok-clause-encode
-returns-in-Ok-clause-encode g c = λ named. WritesAnswer-Comes _ Encode _ _ _ _ _ named (returns-in-Ok-clause-status g c)
+returns-in-Ok-clause-encode g c = λ named. WritesAnswer-Comes _ Encode _ _ _ _ _ tt named (returns-in-Ok-clause-status g c)
 
 pub returns-in-Err-clause-encode : goal.returns-in-Err-clause-encode
-returns-in-Err-clause-encode g c = λ named. WritesAnswer-Comes _ Encode _ _ _ _ _ named (returns-in-Err-clause-status g c)
+returns-in-Err-clause-encode g c = λ named. WritesAnswer-Comes _ Encode _ _ _ _ _ tt named (returns-in-Err-clause-status g c)
 
 pub returns-in_default-clause-decode : goal.returns-in_default-clause-decode
-returns-in_default-clause-decode g c = λ roots named. WritesAnswer-Comes _ (Decode roots) _ _ _ _ _ named (returns-in_default-clause-status g c)
+returns-in_default-clause-decode g c = λ roots named. WritesAnswer-Comes _ (Decode roots) _ _ _ _ _ tt named (returns-in_default-clause-status g c)
 
 pub returns-in-Ok-clause-decode : goal.returns-in-Ok-clause-decode
-returns-in-Ok-clause-decode g c = λ roots named. WritesAnswer-Comes _ (Decode roots) _ _ _ _ _ named (returns-in-Ok-clause-status g c)
+returns-in-Ok-clause-decode g c = λ roots named. WritesAnswer-Comes _ (Decode roots) _ _ _ _ _ tt named (returns-in-Ok-clause-status g c)
 
 pub returns-in-Err-clause-decode : goal.returns-in-Err-clause-decode
-returns-in-Err-clause-decode g c = λ roots named. WritesAnswer-Comes _ (Decode roots) _ _ _ _ _ named (returns-in-Err-clause-status g c)
+returns-in-Err-clause-decode g c = λ roots named. WritesAnswer-Comes _ (Decode roots) _ _ _ _ _ tt named (returns-in-Err-clause-status g c)
+
+pub returns-in_default-clause-frames : goal.returns-in_default-clause-frames
+returns-in_default-clause-frames g c = λ named. WritesAnswer-Comes _ Frames _ _ _ _ _ tt named (returns-in_default-clause-status g c)
+
+pub returns-in-Ok-clause-frames : goal.returns-in-Ok-clause-frames
+returns-in-Ok-clause-frames g c = λ named. WritesAnswer-Comes _ Frames _ _ _ _ _ tt named (returns-in-Ok-clause-status g c)
+
+pub returns-in-Err-clause-frames : goal.returns-in-Err-clause-frames
+returns-in-Err-clause-frames g c = λ named. WritesAnswer-Comes _ Frames _ _ _ _ _ tt named (returns-in-Err-clause-status g c)
+
+pub returns-in_default-clause-direct : goal.returns-in_default-clause-direct
+returns-in_default-clause-direct g c = λ named. WritesAnswer-Comes _ Direct _ _ _ _ _ tt named (returns-in_default-clause-status g c)
+
+pub returns-in_default-clause-made : goal.returns-in_default-clause-made
+returns-in_default-clause-made g c = λ calls show named. WritesGenerated-Comes _ calls show _ _ _ _ _ named (returns-in_default-clause-status g c)
+
+pub returns-in-Ok-clause-direct : goal.returns-in-Ok-clause-direct
+returns-in-Ok-clause-direct g c = λ named. WritesAnswer-Comes _ Direct _ _ _ _ _ tt named (returns-in-Ok-clause-status g c)
+
+pub returns-in-Ok-clause-made : goal.returns-in-Ok-clause-made
+returns-in-Ok-clause-made g c = λ calls show named. WritesGenerated-Comes _ calls show _ _ _ _ _ named (returns-in-Ok-clause-status g c)
+
+pub returns-in-Err-clause-direct : goal.returns-in-Err-clause-direct
+returns-in-Err-clause-direct g c = λ named. WritesAnswer-Comes _ Direct _ _ _ _ _ tt named (returns-in-Err-clause-status g c)
+
+pub returns-in-Err-clause-made : goal.returns-in-Err-clause-made
+returns-in-Err-clause-made g c = λ calls show named. WritesGenerated-Comes _ calls show _ _ _ _ _ named (returns-in-Err-clause-status g c)
