@@ -16,3 +16,4 @@ pub mod Passing
 pub mod OneAnswer
 pub mod TextUnits
 pub mod FirstChunk
+pub mod AtOnce

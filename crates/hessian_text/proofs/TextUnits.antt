@@ -106,8 +106,11 @@ front_most xs n within =
     let len : length (take n xs) ≡ n = length-take-le n xs within in
     omega (arith, most, len)
 
-pub block_more : (xs : List ℕ) (at n : ℕ) → sum_by byte_units (take at xs) + sum_by byte_units (take n (drop at xs)) ≡ sum_by byte_units (take (at + n) xs)
+block_more : (xs : List ℕ) (at n : ℕ) → sum_by byte_units (take at xs) + sum_by byte_units (take n (drop at xs)) ≡ sum_by byte_units (take (at + n) xs)
 block_more xs at n = sym (ap (sum_by byte_units) (take-add at n xs) ∙ sum_by-append byte_units (take at xs) (take n (drop at xs)))
+
+pub block_count : (xs : List ℕ) (at n next : ℕ) → at + n ≡ next → sum_by byte_units (take at xs) + sum_by byte_units (take n (drop at xs)) ≡ sum_by byte_units (take next xs)
+block_count xs at n next is = block_more xs at n ∙ ap (λ k. sum_by byte_units (take k xs)) is
 
 -- a text has no more units than bytes
 pub units_most : (text : List ℕ) → IsUtf8 text → length (utf16 text) ≤ length text

@@ -159,7 +159,7 @@ ascii_by_units : (bs : List ℕ) → IsAscii bs → by_units bs ≡ bs
 ascii_by_units [] h = refl
 ascii_by_units (b ∷ bs) h = ap (λ x. x ++ by_units bs) (encode_one b (h 0)) ∙ ap (λ x. b ∷ x) (ascii_by_units bs (tail_ascii b bs h))
 
-ascii_units : (bs : List ℕ) → IsAscii bs → flat_map encode_utf16 bs ≡ bs
+pub ascii_units : (bs : List ℕ) → IsAscii bs → flat_map encode_utf16 bs ≡ bs
 ascii_units [] h = refl
 ascii_units (b ∷ bs) h = ap (λ x. x ++ flat_map encode_utf16 bs) (units_low b (let k : b < 128 = h 0 in omega arith)) ∙ ap (λ x. b ∷ x) (ascii_units bs (tail_ascii b bs h))
 

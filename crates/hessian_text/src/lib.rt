@@ -4,6 +4,7 @@
 //! is the last. A unit is a byte of a binary, or sixteen bits of a text in UTF-16.
 #![tactic(auto)]
 
+mod at_once;
 mod fault;
 mod laws;
 mod reader;
@@ -13,6 +14,7 @@ mod step;
 mod units;
 mod writing;
 
+pub use at_once::text_at_once;
 pub use fault::{BinaryFault, OutOfMemory, TextFault};
 pub use laws::{
     no_refusal_of_a_binary, no_refusal_of_a_text, one_refusal_of_binary, one_refusal_of_text,

@@ -1,6 +1,8 @@
 //! What no clause says: texts and binaries as they lie on a wire, and printed faults.
 
-use crate::{BinaryFault, TextFault, read_binary, read_text, write_binary, write_text};
+use crate::{
+    BinaryFault, TextFault, read_binary, read_text, text_at_once, write_binary, write_text,
+};
 use std::test::Fail;
 
 #[test]
@@ -88,6 +90,30 @@ fn long_texts_have_more_chunks(rt: HostRuntime) -> Result<(), Fail> {
     let (again, end) = read_text(rt.alloc(), out.as_slice(), 0)?;
     assert_eq!(rt; again.as_str(), text.as_str());
     assert_eq!(rt; end, out.len());
+    Ok(())
+}
+
+#[test]
+fn short_texts_are_told_at_once(rt: HostRuntime) -> Result<(), Fail> {
+    let told = [
+        (b"\x02abN".as_slice(), "ab", 3),
+        (b"\x00", "", 1),
+        (b"\x30\x03abc", "abc", 5),
+    ];
+    for (piece, text, end) in told {
+        let found = text_at_once(rt.alloc(), piece)?;
+        let at_once = found.as_ref().map(|(text, end)| (text.as_str(), *end));
+        assert_eq!(rt; at_once, Some((text, end)));
+    }
+    for piece in [
+        b"".as_slice(),
+        b"\x03ab",
+        b"\x01\xd0\xb6",
+        b"\x53\x00\x01a",
+        b"\x21a",
+    ] {
+        assert!(rt; text_at_once(rt.alloc(), piece)?.is_none());
+    }
     Ok(())
 }
 

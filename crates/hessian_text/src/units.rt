@@ -27,15 +27,8 @@ const WINDOW: usize = 32;
 fn byte_units(byte: u8) -> u8
     ensures { result ≡ byte_units byte }
 {
-    if byte < 0x80 {
-        1
-    } else if byte < 0xc0 {
-        0
-    } else if byte < 0xf0 {
-        1
-    } else {
-        2
-    }
+    let begins = byte < 0x80 || byte >= 0xc0;
+    u8::from(begins) + u8::from(byte >= 0xf0)
 }
 
 /// How many units the bytes of a block count.
@@ -57,12 +50,11 @@ pub(crate) fn unit_count(text: &[u8]) -> usize
 {
     let mut units = 0;
     let mut at = 0;
-    while at < text.len() {
-        let end = at + (text.len() - at).min(BLOCK);
-        units += usize::from(block_units(&text[at..end]));
-        at = end;
+    while text.len() - at >= BLOCK {
+        units += usize::from(block_units(&text[at..at + BLOCK]));
+        at += BLOCK;
     }
-    units
+    units + usize::from(block_units(&text[at..]))
 }
 
 /// The place before this one, where no character begins at this one.
