@@ -13,3 +13,4 @@ pub mod Fed
 pub mod Scalars
 pub mod OneForm
 pub mod Residual
+pub mod AtOnce

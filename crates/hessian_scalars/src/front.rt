@@ -109,14 +109,14 @@ fn nine(code: u8, eight: [u8; 8]) -> Scalar
 }
 
 /// The number of a code and one byte, in a row whose code of zero is given.
-fn with_byte(zero_code: u8, code: u8, b0: u8) -> i32
+pub(crate) fn with_byte(zero_code: u8, code: u8, b0: u8) -> i32
     ensures { result ≡ compact zero_code code 256 b0 }
 {
     (code as i32 - zero_code as i32) * 256 + b0 as i32
 }
 
 /// The number of a code and two bytes, in a row whose code of zero is given.
-fn with_two(zero_code: u8, code: u8, b1: u8, b0: u8) -> i32
+pub(crate) fn with_two(zero_code: u8, code: u8, b1: u8, b0: u8) -> i32
     ensures { result ≡ compact zero_code code 65536 (b1 * 256 + b0) }
 {
     (code as i32 - zero_code as i32) * 65536 + b1 as i32 * 256 + b0 as i32

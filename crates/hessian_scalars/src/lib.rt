@@ -3,6 +3,7 @@
 //! A value has several spellings. The readers take them all, the writers give the shortest.
 #![tactic(auto)]
 
+mod at_once;
 mod code;
 mod fault;
 mod front;
@@ -12,6 +13,7 @@ mod reader;
 mod scalar;
 mod write;
 
+pub use at_once::scalar_at_once;
 pub use fault::{OutOfMemory, ScalarFault};
 pub use front::Front;
 pub use int::{begins_int, read_int, write_int};

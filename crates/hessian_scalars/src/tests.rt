@@ -12,6 +12,7 @@ fn goes_both_ways(rt: &impl Abort, alloc: Global, table: &[(Scalar, &[u8])]) -> 
         write_scalar(alloc, &mut out, *value)?;
         assert_eq!(rt; out.as_slice(), *bytes);
         assert_eq!(rt; read_scalar(bytes, 0), Ok((*value, bytes.len())));
+        assert_eq!(rt; scalar_at_once(bytes), Some((*value, bytes.len())));
         assert_eq!(rt; in_pieces(bytes, 1), Front::Whole(*value, 1));
         assert_eq!(rt; in_pieces(bytes, 9), Front::Whole(*value, bytes.len()));
     }
@@ -98,6 +99,7 @@ fn a_longer_spelling_is_read(rt: HostRuntime) {
 #[test]
 fn what_is_no_scalar_is_refused_at_its_place(rt: HostRuntime) {
     assert_eq!(rt; read_scalar(&[0xc8], 0), Err(ScalarFault::Short { at: 1 }));
+    assert_eq!(rt; scalar_at_once(&[0xc8]), None);
     assert_eq!(rt;
         read_scalar(&[0x5b], 0),
         Err(ScalarFault::Double { at: 0, code: 0x5b })
