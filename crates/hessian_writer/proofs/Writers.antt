@@ -27,7 +27,7 @@ use Rattle.hessian_writer.specs.Heads.{HeadForm}
 use Rattle.hessian_writer.specs.Course.{Due, ValueOf, values_then, end_then, State, GoesOn}
 use Rattle.hessian_writer.specs.Course.Course.{done}
 use Rattle.hessian_writer.specs.Appending.{Appends, WritesPlain}
-use Rattle.hessian_writer.specs.Progress.{tables_with, state_of, due_on, on_stack, work, CanWrite, Fine, begun_state, WritesHead}
+use Rattle.hessian_writer.specs.Progress.{tables_with, state_of, due_on, work, CanWrite, Fine, begun_state, WritesHead}
 use Rattle.hessian_writer.specs.Running.{with_out, RunsToNode, WritesOver, end_bytes}
 use Rattle.hessian_writer.proofs.LeafLaws.{forms_are_spellings}
 use Rattle.hessian_writer.proofs.Steps.{both, leaf_goes, again_goes, first_goes, next_value, no_value, due_push, work_push, seen_work, pushed_below}
@@ -118,32 +118,17 @@ pub goes_end : (g : Shape) (types : List (List ℕ)) (classes : List Class) (nod
 goes_end g types classes node n at order t old mid new ds kind vs over e =
     rw (kind, vs) (both (over.goes_on g order t (end_then (kind_of types classes node) ds)) (ended g types classes node order t mid new ds e))
 
--- they are written up to a node, which is met then
-pub goes_to_node : (g : Shape) (types : List (List ℕ)) (classes : List Class) (node : Node) (n at number behind : ℕ) (order : List ℕ) (t : Tables) (stack : List Step) (old mid : List ℕ) (s : State) (ds ds' : List Due) → kind_at g n ≡ kind_of types classes node → values_at g n ≡ values_of node → RunsToNode (values_of node) at number behind old mid → GoesOn hessian_forms g (with_out order t mid) (ValueOf (values.Node number) ∷ due_on g (reverse (stack ++ record { node = n; at = behind } ∷ [])) ds) s ds' → GoesOn hessian_forms g (with_out order t old) (values_then (drop at (values_at g n)) (end_then (kind_at g n) (due_on g (reverse stack) ds))) s ds'
-goes_to_node g types classes node n at number behind order t stack old mid s ds ds' kind vs run more =
+-- what is due at a step, before what is due on a stack
+abbrev pub due_at : Shape → Step → List Step → List Due → List Due
+due_at g t stack ds = values_then (drop t.at (values_at g t.node)) (end_then (kind_at g t.node) (due_on g (reverse stack) ds))
+
+-- the values are written up to a node, which is met then
+pub goes_to_node : (g : Shape) (types : List (List ℕ)) (classes : List Class) (node : Node) (n at number behind : ℕ) (order : List ℕ) (t : Tables) (stack kept : List Step) (old mid : List ℕ) (s : State) (ds ds' : List Due) → kind_at g n ≡ kind_of types classes node → values_at g n ≡ values_of node → RunsToNode (values_of node) at number behind old mid → due_on g (reverse kept) ds ≡ due_at g (record { node = n; at = behind }) stack ds → GoesOn hessian_forms g (with_out order t mid) (ValueOf (values.Node number) ∷ due_on g (reverse kept) ds) s ds' → GoesOn hessian_forms g (with_out order t old) (values_then (drop at (values_at g n)) (end_then (kind_at g n) (due_on g (reverse stack) ds))) s ds'
+goes_to_node g types classes node n at number behind order t stack kept old mid s ds ds' kind vs run due more =
     let rest : List Due = end_then (kind_at g n) (due_on g (reverse stack) ds) in
     let here : GoesOn hessian_forms g (with_out order t old) (values_then (drop at (values_at g n)) rest) (with_out order t mid) (ValueOf (values.Node number) ∷ values_then (drop behind (values_at g n)) rest) =
     subst (λ x. GoesOn hessian_forms g (with_out order t old) (values_then (drop at x) rest) (with_out order t mid) (ValueOf (values.Node number) ∷ values_then (drop behind x) rest)) (sym vs) (run.over.goes_on g order t rest) in
-    both here (subst (λ x. GoesOn hessian_forms g (with_out order t mid) (ValueOf (values.Node number) ∷ x) s ds') (due_push g stack (record { node = n; at = behind }) ds) more)
-
--- a step is put back, and the values behind it are fewer
-pub fine_pushed : (p : Parts) (old new : Writer) (n at : ℕ) → Fine p old → n < length p.nodes → new.nodes ≡ old.nodes → new.types ≡ old.types → new.classes ≡ old.classes → new.stack.items ≡ old.stack.items ++ record { node = n; at = at } ∷ [] → Fine p new
-fine_pushed p old new n at fine within nodes types classes stack = record {
-  nodes_total = rw nodes fine.nodes_total;
-  few_nodes = rw nodes fine.few_nodes;
-  types = rw types fine.types;
-  classes = rw classes fine.classes;
-  few_types = rw (nodes, types) fine.few_types;
-  few_classes = rw (nodes, classes) fine.few_classes;
-  within = subst (All (λ (x : Step). x.node < length p.nodes)) (sym stack) (pushed_below (length p.nodes) old.stack.items (record { node = n; at = at }) fine.within within);
-}
-
-pub work_pushed : (g : Shape) (stack : List Step) (n at number behind : ℕ) (old mid : List ℕ) (vs : List Value) (more rest : ℕ) → values_at g n ≡ vs → RunsToNode vs at number behind old mid → more ≤ rest + on_stack g (reverse (stack ++ record { node = n; at = behind } ∷ [])) → more ≤ rest + on_stack g (reverse stack) + (length (values_at g n) - at)
-work_pushed g stack n at number behind old mid vs more rest e run h =
-    let push = work_push g stack (record { node = n; at = behind }) in
-    let after = run.after in
-    let within : behind ≤ length (values_at g n) = subst (λ x. behind ≤ length x) (sym e) run.within in
-    omega (arith, push, after, within, h)
+    both here (subst (λ x. GoesOn hessian_forms g (with_out order t mid) (ValueOf (values.Node number) ∷ x) s ds') due more)
 
 -- a node among values is a node of the graph
 pub node_below : (p : Parts) (n at number behind : ℕ) (node : Node) (old mid : List ℕ) → CanWrite p → n < length p.nodes → values_at (shape_of p) n ≡ values_of node → RunsToNode (values_of node) at number behind old mid → number < length p.nodes

@@ -4,12 +4,13 @@ use Rattle.hessian_graph.specs.declared.value.Value.{Value}
 use Rattle.hessian_graph.specs.declared.value.Value.TheVariants as values
 use Rattle.hessian_graph.specs.declared.node.Node.{Node}
 use Rattle.hessian_graph.specs.declared.node.Node.TheVariants as nodes
-use Rattle.hessian_graph.specs.Shape.{Shape}
+use Rattle.hessian_graph.specs.declared.node.Class.{Class}
+use Rattle.hessian_graph.specs.Shape.{Text, Shape, kind_of, values_of}
 use Rattle.hessian_graph.specs.Reading.{Tables}
 use Rattle.hessian_writer.specs.declared.run.Stop.{Stop}
 use Rattle.hessian_writer.specs.declared.run.Stop.TheVariants as stops
 use Rattle.hessian_writer.specs.Leaves.{hessian_forms}
-use Rattle.hessian_writer.specs.Course.{Due, ValueOf, values_then, State, GoesOn}
+use Rattle.hessian_writer.specs.Course.{Due, ValueOf, values_then, end_then, State, GoesOn}
 
 -- a state with these bytes
 abbrev pub with_out : List ℕ → Tables → List ℕ → State
@@ -35,3 +36,7 @@ abbrev pub end_bytes : Node → List ℕ
 end_bytes (nodes.List type_name items) = []
 end_bytes (nodes.Map type_name pairs) = 0x5a ∷ []
 end_bytes (nodes.Object class vs) = []
+
+-- no value of a node is due behind this place, and no end
+abbrev pub IsNothingDue : Node → ℕ → Type 0
+IsNothingDue node at = (types : List Text) (classes : List Class) (ds : List Due) → values_then (drop at (values_of node)) (end_then (kind_of types classes node) ds) ≡ ds

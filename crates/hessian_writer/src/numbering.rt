@@ -33,9 +33,7 @@ impl Numbering {
         ensures { IfOk result (λ a. a ≡ none_of total) }
     {
         let mut numbers = Vec::new(alloc);
-        for _thing in 0..total {
-            numbers.push(None)?;
-        }
+        numbers.resize(total, None)?;
         Ok(Numbering {
             numbers,
             order: Vec::new(alloc),

@@ -1,9 +1,9 @@
 //! Runs of values that are no nodes.
 
-ghost use Rattle.std.specs.Prelude.{◌≡◌, ◌<◌, ◌≤◌, length, get_or, IfOk, IfSome, IfNone, OnOk, ◌++◌};
+ghost use Rattle.std.specs.Prelude.{◌≡◌, ◌<◌, ◌≤◌, length, get_or, IfOk, IfSome, IfNone, OnOk, IsTrue, ◌++◌};
 ghost use Rattle.hessian_graph.specs.Shape.{values_of};
 ghost use Rattle.hessian_graph.specs.declared.value.Value.TheVariants.{Null};
-ghost use Rattle.hessian_writer.specs.Running.{RunsTo, end_bytes};
+ghost use Rattle.hessian_writer.specs.Running.{RunsTo, end_bytes, IsNothingDue};
 
 use crate::leaf::write_plain;
 use hessian_graph::{Node, OutOfMemory, Value};
@@ -64,6 +64,17 @@ pub(crate) fn write_run(
         }
     }
     Ok(Stop::End)
+}
+
+/// Whether nothing is due of a node behind this place among its values: no value, and no end.
+pub(crate) fn is_over(node: &Node, at: usize) -> bool
+    ensures { IsTrue result → IsNothingDue node.now at }
+{
+    match node {
+        Node::List { items, .. } => items.as_slice().len() <= at,
+        Node::Map { .. } => false,
+        Node::Object { values, .. } => values.as_slice().len() <= at,
+    }
 }
 
 /// Writes what stands behind the values of a node: `Z` behind those of a map.

@@ -17,7 +17,7 @@ use crate::head::{write_list, write_object, write_type, write_typed_list};
 use crate::leaf::write_plain;
 use crate::names::Names;
 use crate::numbering::Numbering;
-use crate::run::{Stop, write_end, write_run};
+use crate::run::{Stop, is_over, write_end, write_run};
 use hessian_graph::{Node, OutOfMemory, Parts, Value};
 use hessian_scalars::write_int;
 use std::alloc::Global;
@@ -123,14 +123,35 @@ impl Writer {
                 Ok(())
             }
             Stop::Node { number, behind } => {
-                self.stack.push(Step {
+                let step = Step {
                     node: top.node,
                     at: behind,
-                })?;
+                };
+                self.keep(parts, step)?;
                 self.meet(alloc, parts, number)?;
                 Ok(())
             }
         }
+    }
+
+    /// Puts a step on the stack, unless nothing is due at its node any more.
+    fn keep(&mut self, parts: &Parts, step: Step) -> Result<(), OutOfMemory>
+        requires fine { Fine parts.now self.old }
+        requires within { step.node < length parts.now.nodes }
+        ensures fine { OnOk result (Fine parts.now self.new) }
+        ensures state { OnOk result (state_of parts.now self.new ≡ state_of parts.now self.old) }
+        ensures due { OnOk result ((ds : List Due) → due_on (shape_of parts.now) (reverse self.new.stack.items) ds
+            ≡ values_then (drop step.at (values_at (shape_of parts.now) step.node))
+            (end_then (kind_at (shape_of parts.now) step.node) (due_on (shape_of parts.now) (reverse self.old.stack.items) ds))) }
+        ensures work { OnOk result (work parts.now self.new
+            ≤ work parts.now self.old + suc (length (values_at (shape_of parts.now) step.node) - step.at)) }
+    {
+        let node = &parts.nodes.as_slice()[step.node as usize];
+        if is_over(node, step.at) {
+            return Ok(());
+        }
+        self.stack.push(step)?;
+        Ok(())
     }
 
     /// Writes a node: its number where it has begun, else its head, and its values are due.

@@ -2,13 +2,12 @@ use Rattle.std.proofs.Common.{◌≡◌, ℕ, List, ◌∷◌, get_or, length, s
 use Rattle.hessian_graph.specs.declared.value.Value.TheVariants as values
 use Rattle.hessian_graph.specs.declared.parts.Parts.{Parts}
 use Rattle.hessian_graph.specs.Reading.{Tables}
-use Rattle.hessian_writer.specs.declared.writer.Step.{Step}
 use Rattle.hessian_writer.specs.Leaves.{hessian_forms}
 use Rattle.hessian_writer.specs.Course.{Due, ValueOf, State, GoesOn}
 use Rattle.std.specs.Prelude.{reverse}
 use Rattle.hessian_graph.specs.Shape.{Shape, shape_of, values_of, no_vertex}
 use Rattle.hessian_writer.specs.Progress.{tables_with, state_of, due_on}
-use Rattle.hessian_writer.specs.Running.{RunsTo, with_out}
+use Rattle.hessian_writer.specs.Running.{RunsTo}
 use Rattle.hessian_writer.proofs.Writers.{indexed, kind_here, values_here, node_below, goes_end, goes_to_node}
 use Rattle.hessian_writer.proofs.writer.Writer.go_on.Goals as goal
 
@@ -35,5 +34,5 @@ returns-in_ok-meet-in-Node-clause-goes_on c = λ ds.
     let t : Tables = tables_with p (length order) c.args.self.now in
     let s : State = state_of p c.meet.new.self in
     let last : List Due = due_on g (reverse c.meet.new.self.stack.items) ds in
-    goes_to_node g p.types p.classes c.index-as_slice-top.result n c.args.top.at c.in-Node.number c.in-Node.behind order t c.args.self.now.stack.items c.args.self.now.out.items c.write_run.new.out.items s ds last (kind_here p n c.index-as_slice-top.result e) (values_here p n c.index-as_slice-top.result e) run
-    (subst (λ (st : List Step). GoesOn hessian_forms g (with_out order t c.write_run.new.out.items) (ValueOf (values.Node c.in-Node.number) ∷ due_on g (reverse st) ds) s last) c.in_ok-push-in-Node.ensures.items (c.in_ok-meet-in-Node.ensures.goes_on ds))
+    goes_to_node g p.types p.classes c.index-as_slice-top.result n c.args.top.at c.in-Node.number c.in-Node.behind order t c.args.self.now.stack.items c.keep.new.self.stack.items c.args.self.now.out.items c.write_run.new.out.items s ds last (kind_here p n c.index-as_slice-top.result e) (values_here p n c.index-as_slice-top.result e) run (c.in_ok-keep-in-Node.ensures.due ds)
+    (subst (λ (x : State). GoesOn hessian_forms g x (ValueOf (values.Node c.in-Node.number) ∷ due_on g (reverse c.keep.new.self.stack.items) ds) s last) c.in_ok-keep-in-Node.ensures.state (c.in_ok-meet-in-Node.ensures.goes_on ds))
