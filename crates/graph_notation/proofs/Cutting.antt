@@ -1,5 +1,5 @@
 -- Steps through a text, byte by byte.
-use Rattle.std.proofs.Common.{◌≡◌, ℕ, suc, ◌+◌, ◌<◌, ◌≤◌, Bool, true, false, List, length, get_or, drop, ap, ◌∙◌, add-one, drop-cons}
+use Rattle.std.proofs.Common.{◌≡◌, ℕ, suc, ◌+◌, ◌<◌, ◌≤◌, Bool, true, false, List, length, get_or, drop, ap, ◌∙◌, add-one, drop-cons, arith}
 use Rattle.std.specs.Prelude.{nat_eq, not, ◌&&◌, if◌then◌else◌}
 use Rattle.std.proofs.lemmas.List.{drop_all}
 use Rattle.graph_notation.specs.Tokens.{is_word_byte}
@@ -25,3 +25,7 @@ quote_end text i e h = ap (closing e) (drop_all i text h)
 
 pub first_byte : (text : List ℕ) (i : ℕ) → i < length text → token_length (drop i text) ≡ (if is_word_byte (get_or text i 0) then suc (word_run (drop (i + 1) text)) else (if nat_eq (get_or text i 0) 0x22 then suc (closing false (drop (i + 1) text)) else 1))
 first_byte text i h = rw (add-one) (ap token_length (drop-cons text i 0 h))
+
+-- a decimal digit is a byte of a word
+pub figure_on : (b : ℕ) → 0x30 ≤ b → b ≤ 0x39 → is_word_byte b ≡ true
+figure_on b h l = grind arith

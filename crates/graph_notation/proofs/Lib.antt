@@ -8,8 +8,8 @@ pub mod Cutting
 pub mod Tokens
 pub mod Decimals
 pub mod Digits
+pub mod HexBlocks
 pub mod PlainRuns
-pub mod NibbleTable
 pub mod SmallNumbers
 pub mod Readings
 pub mod Forming

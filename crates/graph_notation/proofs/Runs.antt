@@ -2,7 +2,7 @@
 use Rattle.std.proofs.Common.{◌≡◌, ℕ, zero, suc, ◌+◌, ◌-◌, ◌*◌, ◌/◌, ◌%◌, ◌<◌, ◌≤◌, List, [], ◌∷◌, ◌++◌, length, get_or, take, drop, set, refl, ap, sym, ◌∙◌, subst, arith, append_assoc, length-drop, length-set, length-take-le, add-one, add-zero}
 use Rattle.std.specs.List.{flat_map}
 use Rattle.std.proofs.lemmas.Grind.{flat_map-append}
-use Rattle.std.proofs.lemmas.List.{append-nil, take_all, take_more_set}
+use Rattle.std.proofs.lemmas.List.{append-nil, take_all, take_more_set, take-append-drop}
 use Rattle.std.proofs.Math.Seq.{take-suc}
 use Rattle.graph_notation.specs.Elements.{escaped, hex_digit, hex_pair}
 use Rattle.graph_notation.specs.Pressing.{IsOn}
@@ -95,6 +95,15 @@ pairs_on bytes block before out new at n w is e =
     (ap (λ x. flat_map hex_pair (take at bytes) ++ flat_map hex_pair x) is
     ∙ sym (flat_map-append hex_pair (take at bytes) (take n (drop at bytes)))
     ∙ ap (flat_map hex_pair) (sym (take_plus at n bytes)))
+
+-- the last of the pairs
+pub pairs_end : (bytes before out new : List ℕ) (at : ℕ) → out ≡ before ++ flat_map hex_pair (take at bytes) → new ≡ out ++ flat_map hex_pair (take (length bytes - at) (drop at bytes)) → new ≡ before ++ flat_map hex_pair bytes
+pairs_end bytes before out new at w e =
+    let m : length (drop at bytes) ≡ length bytes - at = length-drop at bytes in
+    e ∙ ap (λ x. x ++ flat_map hex_pair (take (length bytes - at) (drop at bytes))) w
+    ∙ ap (λ x. (before ++ flat_map hex_pair (take at bytes)) ++ flat_map hex_pair x) (take_all (length bytes - at) (drop at bytes) (omega (arith, m)))
+    ∙ append_assoc before (flat_map hex_pair (take at bytes)) (flat_map hex_pair (drop at bytes))
+    ∙ ap (λ x. before ++ x) (sym (flat_map-append hex_pair (take at bytes) (drop at bytes)) ∙ ap (flat_map hex_pair) (take-append-drop at bytes))
 
 -- the last run
 pub all_written : (text before out : List ℕ) (from i : ℕ) → from ≤ i → length text ≤ i → out ++ take (i - from) (drop from text) ≡ before ++ flat_map escaped (take i text) → out ++ drop from text ≡ before ++ flat_map escaped text

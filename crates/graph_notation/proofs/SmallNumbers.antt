@@ -1,5 +1,5 @@
 -- Numbers that are read digit by digit.
-use Rattle.std.proofs.Common.{◌≡◌, ◌≢◌, ℕ, ℤ, pos, ◌+◌, ◌*◌, ◌/◌, ◌%◌, ◌<◌, ◌≤◌, ◌^◌, List, [], ◌∷◌, ◌++◌, length, get_or, take, ap, sym, ◌∙◌, subst, arith, add-one}
+use Rattle.std.proofs.Common.{◌≡◌, ◌≢◌, ℕ, zero, suc, ℤ, pos, ◌+◌, ◌-◌, ◌*◌, ◌/◌, ◌%◌, ◌<◌, ◌≤◌, ◌^◌, List, [], ◌∷◌, ◌++◌, length, get_or, take, drop, length-drop, refl, ap, sym, ◌∙◌, subst, arith, add-one}
 use Rattle.std.specs.Prelude.{decimal}
 use Rattle.std.specs.Fmt.{signed_decimal}
 use Rattle.std.specs.Int.{w32}
@@ -42,3 +42,27 @@ pub too_high : (n : ℕ) (bytes : List ℕ) → n < 1000000000000000000 → byte
 too_high n bytes small is high k fits same =
     let e : n ≡ k = decimal_injective n k (omega arith) (omega arith) (sym is ∙ same) in
     omega arith
+
+get_drop : (xs : List ℕ) (n k : ℕ) → get_or (drop n xs) k 0 ≡ get_or xs (n + k) 0
+get_drop xs zero k = let e : 0 + k ≡ k = omega arith in ap (λ j. get_or xs j 0) (sym e)
+get_drop [] (suc n) k = refl
+get_drop (x ∷ xs) (suc n) k = get_drop xs n k ∙ (let e : suc n + k ≡ suc (n + k) = omega arith in ap (λ j. get_or (x ∷ xs) j 0) (sym e))
+
+-- the first digit of a number within a text
+pub first_here : (text : List ℕ) (at d : ℕ) → at < length text → 0x30 ≤ get_or text at 0 → d < 10 → d ≡ get_or text at 0 - 0x30 → take (at + 1 - at) (drop at text) ≡ decimal d
+first_here text at d h low few is =
+    let n : at + 1 - at ≡ 1 = omega arith in
+    let m : length (drop at text) ≡ length text - at = length-drop at text in
+    let z : at + 0 ≡ at = omega arith in
+    let e : get_or text at 0 ≡ 0x30 + d = omega arith in
+    ap (λ k. take k (drop at text)) n ∙ first_digit (drop at text) d (omega (arith, m)) few (get_drop text at 0 ∙ ap (λ k. get_or text k 0) z ∙ e)
+
+-- a digit more of a number within a text
+pub more_here : (text : List ℕ) (at end v d : ℕ) → at < end → end < length text → take (end - at) (drop at text) ≡ decimal v → 0 < v → v < 100000000 → d < 10 → 0x30 ≤ get_or text end 0 → d ≡ get_or text end 0 - 0x30 → take (end + 1 - at) (drop at text) ≡ decimal (v * 10 + d)
+more_here text at end v d onward h before some few l low is =
+    let n : end + 1 - at ≡ end - at + 1 = omega arith in
+    let m : length (drop at text) ≡ length text - at = length-drop at text in
+    let z : at + (end - at) ≡ end = omega arith in
+    let e : get_or text end 0 ≡ 0x30 + d = omega arith in
+    ap (λ k. take k (drop at text)) n
+    ∙ digit_more (drop at text) (end - at) v d (omega (arith, m)) before some l (get_drop text at (end - at) ∙ ap (λ k. get_or text k 0) z ∙ e) (omega arith)

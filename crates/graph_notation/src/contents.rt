@@ -1,8 +1,8 @@
-//! The contents of texts and byte lists.
+//! The contents of texts.
 
-ghost use Rattle.std.specs.Prelude.{◌≡◌, ℕ, List, Option, ◌+◌, ◌*◌, ◌<◌, ◌≤◌, ◌∷◌, ◌++◌, [], length, None, Some, IfOk, IfSome, MatchOption};
+ghost use Rattle.std.specs.Prelude.{◌≡◌, ◌<◌, ◌≤◌, [], length, None, Some, IfOk, IfSome, MatchOption};
 ghost use Rattle.graph_notation.specs.Elements.{is_control};
-ghost use Rattle.graph_notation.specs.Unquoting.{digit_of, unquoted, unhexed, Small, Turns, ArePlain, turn, one_digit, paired, behind, below_16};
+ghost use Rattle.graph_notation.specs.Unquoting.{digit_of, unquoted, Small, Turns, ArePlain, turn, one_digit};
 
 use crate::plain::plain_end;
 use std::alloc::{AllocError, Global};
@@ -185,61 +185,5 @@ pub fn unquote(alloc: Global, inner: &[u8]) -> Result<Option<Vec<u8>>, AllocErro
     match mode {
         Mode::Plain => Ok(Some(out)),
         _ => Ok(None),
-    }
-}
-
-/// For each byte the number that it writes as a hexadecimal digit in lower case, or 16.
-const NIBBLES: [u8; 256] = [
-    16, 16, 16, 16, 16, 16, 16, 16, 16, 16, 16, 16, 16, 16, 16, 16, 16, 16, 16, 16, 16, 16, 16, 16,
-    16, 16, 16, 16, 16, 16, 16, 16, 16, 16, 16, 16, 16, 16, 16, 16, 16, 16, 16, 16, 16, 16, 16, 16,
-    0, 1, 2, 3, 4, 5, 6, 7, 8, 9, 16, 16, 16, 16, 16, 16, 16, 16, 16, 16, 16, 16, 16, 16, 16, 16,
-    16, 16, 16, 16, 16, 16, 16, 16, 16, 16, 16, 16, 16, 16, 16, 16, 16, 16, 16, 16, 16, 16, 16, 10,
-    11, 12, 13, 14, 15, 16, 16, 16, 16, 16, 16, 16, 16, 16, 16, 16, 16, 16, 16, 16, 16, 16, 16, 16,
-    16, 16, 16, 16, 16, 16, 16, 16, 16, 16, 16, 16, 16, 16, 16, 16, 16, 16, 16, 16, 16, 16, 16, 16,
-    16, 16, 16, 16, 16, 16, 16, 16, 16, 16, 16, 16, 16, 16, 16, 16, 16, 16, 16, 16, 16, 16, 16, 16,
-    16, 16, 16, 16, 16, 16, 16, 16, 16, 16, 16, 16, 16, 16, 16, 16, 16, 16, 16, 16, 16, 16, 16, 16,
-    16, 16, 16, 16, 16, 16, 16, 16, 16, 16, 16, 16, 16, 16, 16, 16, 16, 16, 16, 16, 16, 16, 16, 16,
-    16, 16, 16, 16, 16, 16, 16, 16, 16, 16, 16, 16, 16, 16, 16, 16, 16, 16, 16, 16, 16, 16, 16, 16,
-    16, 16, 16, 16, 16, 16, 16, 16, 16, 16, 16, 16, 16, 16,
-];
-
-/// The number of a hexadecimal digit in lower case, or 16 for any other byte.
-fn nibble(byte: u8) -> u8
-    ensures { digit_of byte ≡ below_16 result }
-{
-    NIBBLES[byte as usize]
-}
-
-/// The byte that two digits write.
-fn pair(high: u8, low: u8) -> Option<u8>
-    ensures byte { (rest : Option (List ℕ)) → MatchOption result (paired (digit_of high) (digit_of low) rest ≡ None)
-        (λ b. paired (digit_of high) (digit_of low) rest ≡ behind (b ∷ []) rest) }
-{
-    let first = nibble(high);
-    let second = nibble(low);
-    if first < 16 && second < 16 {
-        Some(first * 16 + second)
-    } else {
-        None
-    }
-}
-
-/// The bytes that pairs of digits write.
-pub fn unhex(alloc: Global, digits: &[u8]) -> Result<Option<Vec<u8>>, AllocError>
-    ensures { IfOk result (λ r. MatchOption r (unhexed digits.now ≡ None) (λ v. unhexed digits.now ≡ Some v.items)) }
-{
-    let mut out = Vec::with_capacity(alloc, digits.len() / 2)?;
-    let mut at = 0;
-    while digits.len() - at >= 2 {
-        match pair(digits[at], digits[at + 1]) {
-            Some(byte) => out.push(byte)?,
-            None => return Ok(None),
-        }
-        at += 2;
-    }
-    if at == digits.len() {
-        Ok(Some(out))
-    } else {
-        Ok(None)
     }
 }

@@ -29,6 +29,7 @@ fn write_words(out: &mut Vec<u8>, text: &Chars) -> Result<(), AllocError>
 }
 
 /// Appends a value that is no node, or the number of a node that has begun.
+#[inline(always)]
 pub fn write_leaf(out: &mut Vec<u8>, value: &Value) -> Result<(), AllocError>
     ensures { OnOk result (Prints out.old.items (element_of value.now ∷ []) out.new.items) }
 {
@@ -111,6 +112,7 @@ fn write_field(out: &mut Vec<u8>, class: &Class, at: usize) -> Result<(), AllocE
 }
 
 /// Appends what stands before the value at a place of a node.
+#[inline(always)]
 pub fn write_before(
     out: &mut Vec<u8>,
     parts: &Parts,
@@ -141,6 +143,7 @@ pub fn write_before(
 
 /// The value at a place of a node's values, which are a map's keys and values alternately.
 #[tactic(auto, using(crate::proofs::Pairs::key_even, crate::proofs::Pairs::value_odd, crate::proofs::Pairs::pair_within, crate::proofs::Pairs::pair_past))]
+#[inline(always)]
 pub fn value_at(node: &Node, at: usize) -> Option<&Value>
     ensures some { IfSome result (λ v. v.now ≡ get_or (values_of node.now) at Null) }
     ensures within { IfSome result (λ v. at < length (values_of node.now)) }

@@ -14,6 +14,9 @@ use hessian_graph::Value;
 use itoa::Buffer;
 use std::alloc::AllocError;
 
+/// How many bytes of a list are written in one go.
+const BLOCK: usize = 64;
+
 /// The byte of a mark.
 pub fn byte_of(mark: Mark) -> u8
     ensures { result ≡ mark_byte mark }
@@ -82,11 +85,11 @@ fn digit(number: u8) -> u8
 }
 
 /// Two digits for each byte of a block, and what is left of the room for them.
-fn pairs_of(block: &[u8]) -> [u8; 64]
-    requires { length block.now ≤ 32 }
+fn pairs_of(block: &[u8]) -> [u8; 128]
+    requires { length block.now ≤ 64 }
     ensures { take (2 * length block.now) result ≡ flat_map hex_pair block.now }
 {
-    let mut pairs = [0; 64];
+    let mut pairs = [0; 128];
     for at in 0..block.len() {
         pairs[2 * at] = digit(block[at] / 16);
         pairs[2 * at + 1] = digit(block[at] % 16);
@@ -95,8 +98,9 @@ fn pairs_of(block: &[u8]) -> [u8; 64]
 }
 
 /// Appends two digits for each byte of a block.
+#[inline(always)]
 fn write_block(out: &mut Vec<u8>, block: &[u8]) -> Result<(), AllocError>
-    requires { length block.now ≤ 32 }
+    requires { length block.now ≤ 64 }
     ensures { OnOk result (out.new.items ≡ out.old.items ++ flat_map hex_pair block.now) }
 {
     let pairs = pairs_of(block);
@@ -109,12 +113,11 @@ fn write_pairs(out: &mut Vec<u8>, bytes: &[u8]) -> Result<(), AllocError>
     ensures { OnOk result (out.new.items ≡ out.old.items ++ flat_map hex_pair bytes.now) }
 {
     let mut at = 0;
-    while at < bytes.len() {
-        let end = at + (bytes.len() - at).min(32);
-        write_block(out, &bytes[at..end])?;
-        at = end;
+    while bytes.len() - at >= BLOCK {
+        write_block(out, &bytes[at..at + BLOCK])?;
+        at += BLOCK;
     }
-    Ok(())
+    write_block(out, &bytes[at..])
 }
 
 /// Appends a byte of a text that doesn't stand for itself.

@@ -144,6 +144,7 @@ impl Reader {
     }
 
     /// Gives a value to the node that is being read.
+    #[inline(always)]
     fn give(&mut self, value: Value) -> Result<(), AllocError>
         ensures frame { OnOk result (self.new.frame ≡ fed value self.old.frame) }
         ensures nodes { self.new.nodes ≡ self.old.nodes }

@@ -1,6 +1,8 @@
 //! Reading a notation.
 
-ghost use Rattle.std.specs.Prelude.{◌≡◌, ◌≢◌, ◌+◌, ◌<◌, ◌≤◌, [], length, drop, get_or, OnOk, IfOk, IfErr};
+ghost use Rattle.std.specs.Prelude.{◌≡◌, ◌≢◌, ◌+◌, ◌-◌, ◌<◌, ◌≤◌, [], length, take, drop, get_or, FitsSigned, OnOk, IfOk, IfErr};
+ghost use Rattle.std.specs.Fmt.{signed_decimal};
+ghost use Rattle.std.specs.Int.{w32};
 ghost use Rattle.hessian_graph.specs.Shape.{shape_of};
 ghost use Rattle.hessian_graph.specs.Canon.{IsCanon};
 ghost use Rattle.hessian_graph.specs.InUse.{InOrderOfUse};
@@ -18,10 +20,11 @@ use crate::element::Mark;
 use crate::fault::{NODE_LIMIT, NotationFault};
 use crate::frame::Cause;
 use crate::reader::Reader;
+use crate::short_numbers::{ShortNumber, short_number};
 use crate::stop::Stop;
 use crate::token_ends::token_end;
 use crate::words::{element_of, mark};
-use hessian_graph::Graph;
+use hessian_graph::{Graph, Value};
 use std::alloc::{AllocError, Global};
 
 impl From<AllocError> for NotationFault {
@@ -60,7 +63,51 @@ fn read_token(
 {
     match mark(text[at]) {
         Some(mark) => read_mark(alloc, text, at, mark, reader),
+        None => read_other(alloc, text, at, reader),
+    }
+}
+
+/// Reads a token that is no mark: a number of few digits at once.
+fn read_other(
+    alloc: Global,
+    text: &[u8],
+    at: usize,
+    reader: &mut Reader,
+) -> Result<usize, NotationFault>
+    requires within { at < length text.now }
+    requires fine { Fine reader.old }
+    requires limit { reader.old.limit ≡ NODE_LIMIT }
+    ensures read { ReadsOn NODE_LIMIT text.now at (state_of reader.old) (state_of reader.new) result }
+    ensures fine { OnOk result (Fine reader.new) }
+    ensures limit { reader.new.limit ≡ reader.old.limit }
+{
+    match short_number(text, at) {
+        Some(short) => read_number(text, at, short, reader),
         None => read_longer(alloc, text, at, reader),
+    }
+}
+
+/// Reads the number at a place.
+fn read_number(
+    text: &[u8],
+    at: usize,
+    short: ShortNumber,
+    reader: &mut Reader,
+) -> Result<usize, NotationFault>
+    requires at { at < length text.now }
+    requires end { short.end ≡ at + token_length (drop at text.now) }
+    requires within { short.end ≤ length text.now }
+    requires fits { FitsSigned w32 short.number }
+    requires number { take (short.end - at) (drop at text.now) ≡ signed_decimal short.number }
+    requires fine { Fine reader.old }
+    requires limit { reader.old.limit ≡ NODE_LIMIT }
+    ensures read { ReadsOn NODE_LIMIT text.now at (state_of reader.old) (state_of reader.new) result }
+    ensures fine { OnOk result (Fine reader.new) }
+    ensures limit { reader.new.limit ≡ reader.old.limit }
+{
+    match reader.take_value(Value::Int(short.number)) {
+        Ok(()) => Ok(short.end),
+        Err(stop) => Err(fault(stop, at)),
     }
 }
 

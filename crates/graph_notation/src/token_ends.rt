@@ -10,7 +10,7 @@ use crate::plain::plain_end;
 const BLOCK: usize = 32;
 
 /// Whether a byte is one of a word.
-fn is_word_byte(byte: u8) -> bool
+pub fn is_word_byte(byte: u8) -> bool
     ensures { result ≡ is_word_byte byte }
 {
     byte >= b'0' && byte <= b'9'

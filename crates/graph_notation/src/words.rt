@@ -10,8 +10,9 @@ ghost use Rattle.graph_notation.specs.declared.element.Element.{Element};
 ghost use Rattle.graph_notation.specs.Elements.{Reads, mark_byte, hex_pair};
 ghost use Rattle.graph_notation.specs.Words.{IsReading, IsNoValue, IsNoMark, IsNoReference};
 
-use crate::contents::{unhex, unquote};
+use crate::contents::unquote;
 use crate::element::{Element, Mark};
+use crate::hex::unhex;
 use crate::numbers::{int, long, number};
 use hessian_graph::{Chars, Octets, Value};
 use simdutf8::basic::from_utf8;

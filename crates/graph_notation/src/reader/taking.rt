@@ -37,7 +37,8 @@ impl Reader {
     }
 
     /// Takes a value that is no node.
-    fn take_value(&mut self, value: Value) -> Result<(), Stop>
+    #[inline(always)]
+    pub fn take_value(&mut self, value: Value) -> Result<(), Stop>
         requires { Fine self.old }
         ensures state { Steps result (state_of self.new) (step self.old.limit (state_of self.old) (Element.Plain value)) }
         ensures fine { OnOk result (Fine self.new) }
@@ -83,6 +84,7 @@ impl Reader {
     }
 
     /// Takes a mark, where it can stand here.
+    #[inline(always)]
     pub fn take_mark(&mut self, alloc: Global, mark: Mark) -> Result<(), Stop>
         requires { Fine self.old }
         ensures state { Steps result (state_of self.new) (mark_step self.old.limit mark (state_of self.old)) }

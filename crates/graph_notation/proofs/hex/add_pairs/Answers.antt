@@ -1,7 +1,7 @@
 use Rattle.std.proofs.Common.{◌+◌, drop, arith}
 use Rattle.graph_notation.specs.Unquoting.{unhexed}
 use Rattle.graph_notation.proofs.Digits.{pair_on, odd_end}
-use Rattle.graph_notation.proofs.contents.unhex.Goals as goal
+use Rattle.graph_notation.proofs.hex.add_pairs.Goals as goal
 
 pub loop-at-preserved : goal.loop-at-preserved
 loop-at-preserved c =
