@@ -1,7 +1,7 @@
 -- A reader that takes a piece, element by element.
 use Rattle.std.proofs.Common.{◌≡◌, ◌≢◌, ℕ, zero, suc, ◌+◌, ◌-◌, ◌<◌, ◌≤◌, Bool, true, false, List, [], ◌++◌, length, take, drop, refl, ap, sym, ◌∙◌, subst, append_assoc, arith, length-append}
 use Rattle.std.proofs.Math.Seq.{take-add}
-use Rattle.std.proofs.lemmas.List.{append-nil, take-append-drop, take_at, take_all, length-take-le}
+use Rattle.std.proofs.lemmas.List.{append-nil, take-append-drop, take_at, take_all, length-take-le, length-drop, drop-drop}
 use Rattle.std.specs.Prelude.{Option, Some, None, Result}
 use Rattle.hessian_text.specs.Spelling.{AreBytes}
 use Rattle.hessian_text.proofs.Advancing.{rest_is}
@@ -14,11 +14,12 @@ use Rattle.hessian_reader.specs.Lexing.{Holds}
 use Rattle.hessian_reader.specs.States.{State, start, want_at, is_done, graph_of}
 use Rattle.hessian_reader.specs.Steps.{Leads}
 use Rattle.hessian_reader.specs.Views.{state_of}
-use Rattle.hessian_reader.specs.Reading.{EndsAt, NeverEnds, Tells, Follows, IsStuck, StopsIn, TakesOne, GoesOn, Nexts, HasRead}
+use Rattle.hessian_reader.specs.Reading.{EndsAt, NeverEnds, Tells, Follows, IsStuck, StopsIn, TakesOne, TakesSome, GoesOn, Passes, HasRead}
 use Rattle.hessian_reader.specs.Refusing.{IsStoppedBy}
 use Rattle.hessian_reader.proofs.Elements.{holds_begins}
 use Rattle.hessian_reader.proofs.OneWay.{bytes_front, bytes_rest, bytes_both, leads_more, never_ends, begun_blocked, stuck_never_ends}
 use Rattle.hessian_reader.proofs.Running.{denotes}
+use Rattle.hessian_reader.proofs.Runs.{leads_join}
 
 -- the reader has taken this front of a piece; what is behind an element's end has just begun
 pub record Stands (r : GraphReader) (roots : ℕ) (fed front : List ℕ) : Type 0 where
@@ -102,6 +103,49 @@ takes_behind old new roots fed piece n used at st low place d g =
       fresh = λ h. (refl, refl);
     }
 
+-- and the elements that lie whole behind it
+
+runs_behind : (middle new : GraphReader) (roots : ℕ) (fed piece : List ℕ) (n more : ℕ) → Stands middle roots fed (take n piece) → 0 < n → n ≤ length piece → more ≤ length (drop n piece) → Leads (state_of middle.work) (take more (drop n piece)) (state_of new.work) → new.from ≡ middle.from + more → new.lexer.want ≡ want_at new.work.place → Holds new.lexer.want new.lexer.inside [] → Stands new roots fed (take (n + more) piece)
+runs_behind middle new roots fed piece n more st some low within leads from wants nothing =
+    let f = st.follows in
+    let none = st.fresh (not_nil n piece some low) in
+    let run : List ℕ = take more (drop n piece) in
+    let whole : fed ++ take n piece ≡ f.before = f.joined ∙ rw (none.0, none.1) (append-nil f.before) in
+    let joined : fed ++ take (n + more) piece ≡ f.before ++ run = ap (λ x. fed ++ x) (take-add n more piece) ∙ sym (append_assoc fed (take n piece) run) ∙ ap (λ x. x ++ run) whole in
+    let len1 : length run ≡ more = length-take-le more (drop n piece) within in
+    let len2 = length-append f.before run in
+    let begun = f.from in
+    record {
+      follows = record {
+        before = f.before ++ run;
+        came = [];
+        unread = [];
+        joined = joined ∙ sym (append-nil (f.before ++ run));
+        leads = leads_join f.leads leads;
+        wants = wants;
+        holds = nothing;
+        from = omega (arith, from, begun, len1, len2);
+        over = λ e. refl;
+        going = λ e. refl;
+      };
+      fresh = λ h. (refl, refl);
+    }
+
+pub some_behind : (old new : GraphReader) (roots : ℕ) (fed piece : List ℕ) (n used at : ℕ) (st : Stands old roots fed (take n piece)) → n ≤ length piece → at ≡ length fed + n → is_done (state_of old.work) ≡ false → TakesSome old new at st.follows.came (drop n piece) used → Stands new roots fed (take (n + used) piece)
+some_behind old new roots fed piece n used at st low place d g =
+    let first = takes_behind old g.middle roots fed piece n g.first at st low place d g.one in
+    let some = g.one.some in
+    let within = g.one.within in
+    let len = length-drop n piece in
+    let rest : drop (n + g.first) piece ≡ drop g.first (drop n piece) = sym (drop-drop g.first n piece) in
+    let count = g.count in
+    let last : (n + g.first) + g.more ≡ n + used = omega (arith, count) in
+    subst (λ k. Stands new roots fed (take k piece)) last
+    (runs_behind g.middle new roots fed piece (n + g.first) g.more first (omega (arith, some)) (omega (arith, within, len, low))
+    (subst (λ r. g.more ≤ length r) (sym rest) g.within)
+    (subst (λ r. Leads (state_of g.middle.work) (take g.more r) (state_of new.work)) (sym rest) g.leads)
+    g.from g.wants g.nothing)
+
 -- an element is refused, or can't go on
 
 pub stuck_behind : (old : GraphReader) (roots : ℕ) (fed piece : List ℕ) (n : ℕ) (st : Stands old roots fed (take n piece)) → AreBytes (fed ++ piece) → is_done (state_of old.work) ≡ false → IsStuck (state_of old.work) st.follows.came (drop n piece) → NeverEnds roots (fed ++ piece)
@@ -174,10 +218,10 @@ pub front_bytes_of : (fed piece : List ℕ) (n : ℕ) → AreBytes fed → AreBy
 front_bytes_of fed piece n small small' = bytes_both fed (take n piece) small (bytes_front (take n piece) (drop n piece) (subst AreBytes (sym (take-append-drop n piece)) small'))
 
 -- what the clause of the next element says of the element that has begun
-pub nexts_at : (r new : GraphReader) (roots : ℕ) (fed piece : List ℕ) (n at : ℕ) (answer : Result (Option ℕ) HessianFault) (st : Stands r roots fed (take n piece)) → AreBytes fed → AreBytes piece → ((came : List ℕ) → AreBytes came → r.lexer.want ≡ want_at r.work.place → Holds r.lexer.want r.lexer.inside came → Nexts r at came (take (length piece - n) (drop n piece)) new answer) → Nexts r at st.follows.came (drop n piece) new answer
-nexts_at r new roots fed piece n at answer st small small' nexts =
+pub passes_at : (r new : GraphReader) (roots : ℕ) (fed piece : List ℕ) (n at : ℕ) (answer : Result (Option ℕ) HessianFault) (st : Stands r roots fed (take n piece)) → AreBytes fed → AreBytes piece → ((came : List ℕ) → AreBytes came → r.lexer.want ≡ want_at r.work.place → Holds r.lexer.want r.lexer.inside came → Passes r at came (take (length piece - n) (drop n piece)) new answer) → Passes r at st.follows.came (drop n piece) new answer
+passes_at r new roots fed piece n at answer st small small' nexts =
     let f = st.follows in
-    subst (λ p. Nexts r at f.came p new answer) (rest_is n piece) (nexts f.came (came_bytes r roots (fed ++ take n piece) f (front_bytes_of fed piece n small small')) f.wants f.holds)
+    subst (λ p. Passes r at f.came p new answer) (rest_is n piece) (nexts f.came (came_bytes r roots (fed ++ take n piece) f (front_bytes_of fed piece n small small')) f.wants f.holds)
 
 pub not_done_is : (b : Bool) (s : State) → b ≡ is_done s → b ≡ false → is_done s ≡ false
 not_done_is b s e f = sym e ∙ f

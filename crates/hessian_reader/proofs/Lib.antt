@@ -14,6 +14,7 @@ pub mod Elements
 pub mod OneWay
 pub mod Paired
 pub mod Feeding
+pub mod Runs
 pub mod Finishing
 pub mod Taking
 pub mod LexScalars

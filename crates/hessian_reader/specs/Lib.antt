@@ -12,3 +12,4 @@ pub mod Slots
 pub mod Faults
 pub mod Refusing
 pub mod Reading
+pub mod Runs

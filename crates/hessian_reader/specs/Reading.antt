@@ -1,5 +1,5 @@
 -- What a reading of so many roots answers over the bytes that were fed to it.
-use Rattle.std.specs.Prelude.{◌≡◌, ◌≢◌, ℕ, ◌+◌, ◌-◌, ◌<◌, ◌≤◌, List, [], ◌++◌, length, take, true, false, Option, Some, None, Result, Ok, Err, ◌⊎◌, ⊤}
+use Rattle.std.specs.Prelude.{◌≡◌, ◌≢◌, ℕ, ◌+◌, ◌-◌, ◌<◌, ◌≤◌, List, [], ◌++◌, length, take, drop, true, false, Option, Some, None, Result, Ok, Err, ◌⊎◌, ⊤}
 use Rattle.hessian_graph.specs.Shape.{Shape}
 use Rattle.hessian_text.specs.Spelling.{AreBytes}
 use Rattle.hessian_reader.specs.declared.fault.HessianFault.{HessianFault}
@@ -84,11 +84,30 @@ pub record GoesOn (old new : GraphReader) (came piece : List ℕ) : Type 0 where
   pub wants : new.lexer.want ≡ old.lexer.want
   pub holds : Holds new.lexer.want new.lexer.inside (came ++ piece)
 
+-- the element that had begun was taken, and those that lie whole behind it, up to so many bytes of a piece
+pub record TakesSome (old new : GraphReader) (at : ℕ) (came piece : List ℕ) (used : ℕ) : Type 0 where
+  pub middle : GraphReader
+  pub first : ℕ
+  pub more : ℕ
+  pub one : TakesOne old middle at came piece first
+  pub count : used ≡ first + more
+  pub within : more ≤ length (drop first piece)
+  pub leads : Leads (state_of middle.work) (take more (drop first piece)) (state_of new.work)
+  pub from : new.from ≡ middle.from + more
+  pub wants : new.lexer.want ≡ want_at new.work.place
+  pub nothing : Holds new.lexer.want new.lexer.inside []
+
 -- what a piece makes of the element that has begun
 abbrev pub Nexts : GraphReader → ℕ → List ℕ → List ℕ → GraphReader → Result (Option ℕ) HessianFault → Type 0
 Nexts old at came piece new (Ok None) = GoesOn old new came piece
 Nexts old at came piece new (Ok (Some used)) = TakesOne old new at came piece used
 Nexts old at came piece new (Err fault) = fault ≢ OutOfMemory → IsStuck (state_of old.work) came piece
+
+-- the same, with the elements that lie whole behind it
+abbrev pub Passes : GraphReader → ℕ → List ℕ → List ℕ → GraphReader → Result (Option ℕ) HessianFault → Type 0
+Passes old at came piece new (Ok None) = GoesOn old new came piece
+Passes old at came piece new (Ok (Some used)) = TakesSome old new at came piece used
+Passes old at came piece new (Err fault) = fault ≢ OutOfMemory → IsStuck (state_of old.work) came piece
 
 -- The bytes up to the end of a piece stop for what the fault tells, where the piece begins at a place, whole elements led
 -- to the reader, and the element that has begun stands behind them.

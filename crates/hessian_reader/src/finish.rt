@@ -8,6 +8,7 @@ ghost use Rattle.hessian_reader.specs.Views.{state_of};
 ghost use Rattle.hessian_reader.specs.Finish.{IsNodeOf, AreNodesOf, MapsAreWhole};
 
 use crate::fault::HessianFault;
+use crate::grow::push;
 use crate::store::{Begun, Growing, Sort};
 use crate::work::{NODE_LIMIT, Work};
 use hessian_graph::{Graph, Items, Node, Nodes, Pair, Pairs, Parts, Value};
@@ -60,7 +61,7 @@ fn nodes_of(alloc: Global, begun: Vec<Begun>) -> Result<Vec<Node>, AllocError>
     for one in begun {
         let Begun { sort, values } = one;
         let node = node_of(alloc, sort, values)?;
-        nodes.push(node)?;
+        push(&mut nodes, node)?;
     }
     Ok(nodes)
 }

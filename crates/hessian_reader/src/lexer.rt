@@ -1,6 +1,7 @@
 //! One element, from bytes that come in pieces.
 
 ghost use Rattle.std.specs.Prelude.{◌≡◌, ◌<◌, ◌≤◌, ◌++◌, ℕ, List, [], length, slice_index, take, true, IfOk, IfSome};
+ghost use Rattle.hessian_scalars.specs.ScalarSpelling.{ScalarSpelling};
 ghost use Rattle.hessian_text.specs.Spelling.{AreBytes};
 ghost use Rattle.hessian_reader.specs.Codes.{head_of, kind_of, value_of, scalar_element, chunk_element};
 ghost use Rattle.hessian_reader.specs.Elements.{IsElement};
@@ -11,7 +12,7 @@ ghost use Rattle.hessian_reader.specs.Starting.{LeadsChunks, LeadsScalar};
 use crate::chunks::Chunks;
 use crate::element::{Element, Form, Head, Want};
 use hessian_graph::{Chars, Octets, Value};
-use hessian_scalars::{Front, Scalar, ScalarReader, begins_int};
+use hessian_scalars::{Front, Scalar, ScalarReader, begins_int, scalar_at_once};
 use hessian_text::{Fed, Kind};
 use std::alloc::{AllocError, Global};
 use std::mem;
@@ -52,7 +53,7 @@ pub enum Lexed {
 }
 
 /// The head that a code is.
-fn head_of(code: u8) -> Option<Head>
+pub fn head_of(code: u8) -> Option<Head>
     ensures { result ≡ head_of code }
 {
     match code {
@@ -85,7 +86,7 @@ fn kind_of(code: u8) -> Option<Kind>
 }
 
 /// The value that a scalar is.
-fn value_of(scalar: Scalar) -> Value
+pub fn value_of(scalar: Scalar) -> Value
     ensures { result ≡ value_of scalar }
 {
     match scalar {
@@ -125,18 +126,6 @@ fn chunk_element(want: Want, chunks: Chunks) -> Element
     }
 }
 
-/// A scalar that lies whole at the front of a piece, as a value, and behind how many bytes it ends.
-fn scalar_at_once(piece: &[u8]) -> Option<(Value, usize)>
-    ensures within { IfSome result (λ p. p.1 ≤ length piece.now) }
-    ensures is { IfSome result (λ p. IsElement Want.AnyValue (take p.1 piece.now) (Element.Plain p.0)) }
-{
-    let mut reader = ScalarReader::new();
-    match reader.feed(piece) {
-        Front::Whole(scalar, used) => Some((value_of(scalar), used)),
-        _ => None,
-    }
-}
-
 /// A code or a scalar that lies whole at the front of a piece, in a value's place, and behind how many bytes it ends.
 fn value_at_once(piece: &[u8]) -> Option<(Element, usize)>
     ensures within { IfSome result (λ p. p.1 ≤ length piece.now) }
@@ -149,7 +138,7 @@ fn value_at_once(piece: &[u8]) -> Option<(Element, usize)>
         return Some((Element::Code(head), 1));
     }
     match scalar_at_once(piece) {
-        Some((value, used)) => Some((Element::Plain(value), used)),
+        Some((scalar, used)) => Some((Element::Plain(value_of(scalar)), used)),
         None => None,
     }
 }

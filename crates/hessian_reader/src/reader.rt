@@ -64,10 +64,10 @@ impl GraphReader {
     ghost use Rattle.hessian_reader.specs.declared.fault.HessianFault.{HessianFault as Faults};
     ghost use Rattle.hessian_reader.specs.Leaves.{IsDenoted};
     ghost use Rattle.hessian_reader.specs.Lexing.{Holds};
-    ghost use Rattle.hessian_reader.specs.Reading.{EndsAt, Follows, HasRead, NeverEnds, Nexts, StopsIn, Tells, Took, fed_in_all, refusal_of};
+    ghost use Rattle.hessian_reader.specs.Reading.{EndsAt, Follows, HasRead, NeverEnds, Nexts, Passes, StopsIn, Tells, Took, fed_in_all, refusal_of};
     ghost use Rattle.hessian_reader.specs.Refusing.{IsRefusedBy, IsStoppedBy};
     ghost use Rattle.hessian_reader.specs.States.{is_done, want_at};
-    ghost use Rattle.hessian_reader.specs.Steps.{take_element};
+    ghost use Rattle.hessian_reader.specs.Steps.{Leads, take_element};
     ghost use Rattle.hessian_reader.specs.Views.{state_of};
 
     /// A reader of so many roots, to which nothing was fed.
@@ -143,7 +143,7 @@ impl GraphReader {
             if self.work.is_done() {
                 return Ok(Fed::Done { used: taken });
             }
-            match self.next_element(self.fed + taken, &piece[taken..]) {
+            match self.next_elements(self.fed + taken, &piece[taken..]) {
                 // An element has at least one byte.
                 Ok(Some(used)) => taken += used.max(1),
                 Ok(None) => return Ok(Fed::More),
@@ -154,6 +154,51 @@ impl GraphReader {
             Ok(Fed::Done { used: taken })
         } else {
             Ok(Fed::More)
+        }
+    }
+
+    /// Takes the rest of the element that has begun and the elements that lie whole behind it, and answers behind how many
+    /// bytes they end, where the first does.
+    fn next_elements(&mut self, at: usize, piece: &[u8]) -> Result<Option<usize>, HessianFault>
+        requires open { is_done (state_of self.old.work) ≡ false }
+        requires some { 0 < length piece.now }
+        requires room { at + length piece.now ≤ usize.MAX }
+        ensures same { (self.new.fed ≡ self.old.fed) × (self.new.refused ≡ self.old.refused) }
+        ensures within { IfOk result (λ end. IfSome end (λ used. used ≤ length piece.now)) }
+        ensures passes { (came : List ℕ) → AreBytes came → self.old.lexer.want ≡ want_at self.old.work.place → Holds self.old.lexer.want self.old.lexer.inside came
+            → Passes self.old at came piece.now self.new result }
+        ensures why { IfErr result (λ fault. fault ≢ HessianFault.OutOfMemory → StopsIn self.old at piece.now fault) }
+    {
+        match self.next_element(at, piece) {
+            Ok(Some(used)) => match self.take_run(at + used, &piece[used..]) {
+                Ok(more) => Ok(Some(used + more)),
+                Err(fault) => Err(fault),
+            },
+            Ok(None) => Ok(None),
+            Err(fault) => Err(fault),
+        }
+    }
+
+    /// Takes the elements that lie whole at the front of a piece, where a value may stand, and answers how many bytes they are.
+    fn take_run(&mut self, at: usize, piece: &[u8]) -> Result<usize, HessianFault>
+        requires room { at + length piece.now ≤ usize.MAX }
+        ensures same { (self.new.fed ≡ self.old.fed) × (self.new.refused ≡ self.old.refused) }
+        ensures lexer { self.new.lexer ≡ self.old.lexer }
+        ensures within { IfOk result (λ used. used ≤ length piece.now) }
+        ensures wants { IfOk result (λ used. want_at self.new.work.place ≡ want_at self.old.work.place) }
+        ensures leads { IfOk result (λ used. Leads (state_of self.old.work) (take used piece.now) (state_of self.new.work)) }
+        ensures from { self.old.from ≡ at → IfOk result (λ used. self.new.from ≡ at + used) }
+        ensures memory { IfErr result (λ fault. fault ≡ HessianFault.OutOfMemory) }
+    {
+        if !self.work.is_at_value() {
+            return Ok(0);
+        }
+        match self.work.take_run(piece) {
+            Ok(used) => {
+                self.from = at + used;
+                Ok(used)
+            }
+            Err(_) => Err(HessianFault::OutOfMemory),
         }
     }
 

@@ -1,10 +1,13 @@
 //! The values that came, and the nodes that are open.
 
-ghost use Rattle.std.specs.Prelude.{◌≡◌, ◌++◌, ◌∷◌, ◌<◌, ◌^◌, [], length, OnOk, IsTrue};
+ghost use Rattle.std.specs.Prelude.{◌≡◌, ◌++◌, ◌∷◌, ◌<◌, ◌≤◌, ◌^◌, [], length, take, OnOk, IfOk, IsTrue};
 ghost use Rattle.hessian_graph.specs.declared.value.Value.TheVariants.{Node};
+ghost use Rattle.hessian_reader.specs.Runs.{AddsLeaves, Gives, PutsLeaves};
 ghost use Rattle.hessian_reader.specs.States.{less_lacking, lacks_none, with_begun, with_item, with_node, with_value};
 ghost use Rattle.hessian_reader.specs.Views.{built_of, Builds};
 
+use crate::grow::push;
+use crate::leaves::{Taken, push_leaves};
 use crate::stop::Stop;
 use hessian_graph::{Items, Value};
 use std::alloc::{AllocError, Global};
@@ -45,8 +48,22 @@ impl Growing {
         if self.inner.is_empty() {
             self.inner.reserve_exact(room.min(FIRST_ROOM))?;
         }
-        self.inner.push(value)?;
-        Ok(())
+        push(&mut self.inner, value)
+    }
+
+    /// Adds the leaves that lie whole at the front of a piece, but no more than so many.
+    pub fn push_leaves(
+        &mut self,
+        alloc: Global,
+        piece: &[u8],
+        most: usize,
+    ) -> Result<Taken, AllocError>
+        ensures { IfOk result (AddsLeaves self.old piece.now most self.new) }
+    {
+        if self.inner.is_empty() {
+            self.inner.reserve_exact(most.min(FIRST_ROOM))?;
+        }
+        push_leaves(alloc, &mut self.inner, piece, most)
     }
 
     /// The values as items.
@@ -184,30 +201,79 @@ impl Store {
     {
         match self.open_nodes.pop() {
             None => {
-                self.roots.push(value)?;
+                push(&mut self.roots, value)?;
                 self.wanted = self.wanted.saturating_sub(1);
             }
             Some(innermost) => {
                 self.put(innermost.node, value, known_count(innermost.lacks))?;
                 if let Some(lacking) = after_value(innermost) {
-                    self.open_nodes.push(lacking)?;
+                    push(&mut self.open_nodes, lacking)?;
                 }
             }
         }
         Ok(())
     }
 
+    /// Adds the leaves that lie whole at the front of a piece to the node of this number, but no more than so many.
+    fn put_leaves(&mut self, node: u32, piece: &[u8], most: usize) -> Result<Taken, AllocError>
+        ensures puts { IfOk result (PutsLeaves (built_of self.old) node piece.now most (built_of self.new)) }
+    {
+        let place = node as usize;
+        if place < self.nodes.len() {
+            self.nodes[place]
+                .values
+                .push_leaves(self.alloc, piece, most)
+        } else {
+            Ok(Taken {
+                leaves: 0,
+                bytes: 0,
+            })
+        }
+    }
+
+    /// Whether the innermost open node lacks a number of values that is known.
+    pub fn lacks_known(&self) -> bool {
+        match self.open_nodes.last() {
+            Some(innermost) => matches!(innermost.lacks, Lacks::Count(_)),
+            None => false,
+        }
+    }
+
+    /// Takes the leaves that lie whole at the front of a piece, as long as the innermost open node lacks them, and answers
+    /// how many bytes they are.
+    pub fn take_leaves(&mut self, piece: &[u8]) -> Result<usize, AllocError>
+        ensures within { IfOk result (λ used. used ≤ length piece.now) }
+        ensures gives { IfOk result (λ used. Gives (built_of self.old) (take used piece.now) (built_of self.new)) }
+    {
+        let Some(innermost) = self.open_nodes.pop() else {
+            return Ok(0);
+        };
+        let node = innermost.node;
+        match innermost.lacks {
+            Lacks::Count(left) if left > 0 => {
+                let taken = self.put_leaves(node, piece, left)?;
+                if taken.leaves < left {
+                    let lacks = Lacks::Count(left - taken.leaves);
+                    push(&mut self.open_nodes, OpenNode { node, lacks })?;
+                }
+                Ok(taken.bytes)
+            }
+            _ => {
+                push(&mut self.open_nodes, innermost)?;
+                Ok(0)
+            }
+        }
+    }
+
     /// Begins the node of this number.
     fn begin_at(&mut self, lacks: Lacks, sort: Sort, node: u32) -> Result<(), AllocError>
         ensures { OnOk result (built_of self.new ≡ with_begun lacks sort node (built_of self.old)) }
     {
-        self.nodes.push(Begun {
-            sort,
-            values: Growing::new(self.alloc),
-        })?;
+        let values = Growing::new(self.alloc);
+        push(&mut self.nodes, Begun { sort, values })?;
         match lacks {
             Lacks::Count(0) => {}
-            _ => self.open_nodes.push(OpenNode { node, lacks })?,
+            _ => push(&mut self.open_nodes, OpenNode { node, lacks })?,
         }
         Ok(())
     }

@@ -32,7 +32,7 @@ pub struct Work {
 }
 
 /// A number that isn't negative.
-fn natural(number: i32) -> Option<u32>
+pub fn natural(number: i32) -> Option<u32>
     ensures { result ≡ natural_of number }
 {
     u32::try_from(number).ok()

@@ -4,9 +4,9 @@ use Rattle.std.specs.Prelude.{Ok, Err, IfSome}
 use Rattle.hessian_text.specs.Spelling.{AreBytes}
 use Rattle.hessian_text.proofs.Advancing.{rest_is}
 use Rattle.hessian_reader.specs.Views.{state_of}
-use Rattle.hessian_reader.specs.Reading.{TakesOne, GoesOn, Nexts, StopsIn}
+use Rattle.hessian_reader.specs.Reading.{TakesSome, GoesOn, Passes, StopsIn}
 use Rattle.hessian_reader.proofs.OneWay.{bytes_both}
-use Rattle.hessian_reader.proofs.Feeding.{Stands, nexts_at, not_done_is, done_is, takes_behind, goes_behind, stuck_behind, stops_behind, done_follows, tells_done, not_ended, all_taken}
+use Rattle.hessian_reader.proofs.Feeding.{Stands, passes_at, not_done_is, done_is, some_behind, goes_behind, stuck_behind, stops_behind, done_follows, tells_done, not_ended, all_taken}
 use Rattle.hessian_reader.proofs.reader.GraphReader.advance.Goals as goal
 
 pub loop-taken-preserved : goal.loop-taken-preserved
@@ -27,12 +27,13 @@ loop-taken-preserved c =
           let st = c.loop-taken.invariant.stands roots fed count small f in
           let small' : AreBytes piece = record { small = λ i h. omega (arith, c.type_inv.piece i) } in
           let d = not_done_is c.is_done.result (state_of r.work) c.is_done.ensures c.if-is_done.false in
-          let q : TakesOne r c.next_element.new.self (r.fed + n) st.follows.came (drop n piece) used = subst (λ o. Nexts r (r.fed + n) st.follows.came (drop n piece) c.next_element.new.self (Ok o)) c.in-Ok-Some.field-0-is (nexts_at r c.next_element.new.self roots fed piece n (r.fed + n) (Ok c.in-Ok-Some.field-0) st small small' c.in-Ok-Some.ensures.nexts) in
+          let q : TakesSome r c.next_elements.new.self (r.fed + n) st.follows.came (drop n piece) used = subst (λ o. Passes r (r.fed + n) st.follows.came (drop n piece) c.next_elements.new.self (Ok o)) c.in-Ok-Some.field-0-is (passes_at r c.next_elements.new.self roots fed piece n (r.fed + n) (Ok c.in-Ok-Some.field-0) st small small' c.in-Ok-Some.ensures.passes) in
           let same = c.loop-taken.invariant.fed in
-          let some = q.some in
+          let some = q.one.some in
+          let count' = q.count in
           let place : r.fed + n ≡ length fed + n = omega (arith, same, count) in
-          let last : n + used ≡ n + c.max-taken.result = omega (arith, most, some) in
-          subst (λ k. Stands c.next_element.new.self roots fed (take k piece)) last (takes_behind r c.next_element.new.self roots fed piece n used (r.fed + n) st c.loop-taken.invariant.low place d q);
+          let last : n + used ≡ n + c.max-taken.result = omega (arith, most, some, count') in
+          subst (λ k. Stands c.next_elements.new.self roots fed (take k piece)) last (some_behind r c.next_elements.new.self roots fed piece n used (r.fed + n) st c.loop-taken.invariant.low place d q);
     }
 
 pub returns-then-is_done-clause-tells : goal.returns-then-is_done-clause-tells
@@ -47,11 +48,11 @@ returns-in-Ok-None-clause-tells c = λ roots fed count small f.
     let r = c.loop-taken.self in
     let n = c.loop-taken.taken in
     let piece = c.args.piece.now in
-    let new = c.next_element.new.self in
+    let new = c.next_elements.new.self in
     let st = c.loop-taken.invariant.stands roots fed count small f in
     let small' : AreBytes piece = record { small = λ i h. omega (arith, c.type_inv.piece i) } in
     let d = not_done_is c.is_done.result (state_of r.work) c.is_done.ensures c.if-is_done.false in
-    let q : GoesOn r new st.follows.came (drop n piece) = subst (λ o. Nexts r (r.fed + n) st.follows.came (drop n piece) new (Ok o)) c.in-Ok-None.field-0-is (nexts_at r new roots fed piece n (r.fed + n) (Ok c.in-Ok-None.field-0) st small small' c.in-Ok-None.ensures.nexts) in
+    let q : GoesOn r new st.follows.came (drop n piece) = subst (λ o. Passes r (r.fed + n) st.follows.came (drop n piece) new (Ok o)) c.in-Ok-None.field-0-is (passes_at r new roots fed piece n (r.fed + n) (Ok c.in-Ok-None.field-0) st small small' c.in-Ok-None.ensures.passes) in
     let g = goes_behind r new roots fed piece n st d q in
     let d' = ap (λ w. Rattle.hessian_reader.specs.States.is_done (state_of w)) q.work ∙ d in
     (not_ended new roots (fed ++ piece) g (bytes_both fed piece small small') d', g)
@@ -61,11 +62,11 @@ returns-in-Err-clause-refused c = λ roots fed count small f some.
     let r = c.loop-taken.self in
     let n = c.loop-taken.taken in
     let piece = c.args.piece.now in
-    let new = c.next_element.new.self in
+    let new = c.next_elements.new.self in
     let st = c.loop-taken.invariant.stands roots fed count small f in
     let small' : AreBytes piece = record { small = λ i h. omega (arith, c.type_inv.piece i) } in
     let d = not_done_is c.is_done.result (state_of r.work) c.is_done.ensures c.if-is_done.false in
-    let q : Nexts r (r.fed + n) st.follows.came (drop n piece) new (Err c.in-Err.fault) = nexts_at r new roots fed piece n (r.fed + n) (Err c.in-Err.fault) st small small' c.in-Err.ensures.nexts in
+    let q : Passes r (r.fed + n) st.follows.came (drop n piece) new (Err c.in-Err.fault) = passes_at r new roots fed piece n (r.fed + n) (Err c.in-Err.fault) st small small' c.in-Err.ensures.passes in
     stuck_behind r roots fed piece n st (bytes_both fed piece small small') d (q some)
 
 pub returns-then-is_done-2-clause-tells : goal.returns-then-is_done-2-clause-tells
