@@ -8,7 +8,7 @@ use crate::front::{Front, peek, with_byte, with_two};
 use crate::scalar::Scalar;
 
 /// The scalar that lies whole at the front of a piece, and behind how many bytes it ends.
-#[inline]
+#[inline(always)]
 pub fn scalar_at_once(piece: &[u8]) -> Option<(Scalar, usize)>
     ensures within { IfSome result (λ p. p.1 ≤ length piece.now) }
     ensures spells { IfSome result (λ p. ScalarSpelling p.0 (take p.1 piece.now)) }
