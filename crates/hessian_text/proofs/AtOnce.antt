@@ -10,7 +10,7 @@ use Rattle.std.proofs.lemmas.Str.{IsUtf8-from_ascii, chars-IsAscii}
 use Rattle.hessian_text.specs.declared.stage.Kind.TheVariants.{Text}
 use Rattle.hessian_text.specs.declared.stage.Part.TheVariants.{Final}
 use Rattle.hessian_text.specs.ChunkHead.{ChunkHead}
-use Rattle.hessian_text.specs.ChunkHead.ChunkHead.{text_short, text_middle}
+use Rattle.hessian_text.specs.ChunkHead.ChunkHead.{text_short, text_middle, text_final}
 use Rattle.hessian_text.specs.Items.{Contents}
 use Rattle.hessian_text.specs.Spelling.{TextSpelling}
 use Rattle.hessian_text.specs.Spelling.Spelling.{last}
@@ -47,3 +47,31 @@ chunk_spells piece text len units size head within is text_is ascii =
     let contents : Contents Text text units text = subst (λ n. Contents Text text n text) count (ascii_contents text ascii) in
     let all : take len piece ++ text ≡ take (len + units) piece = ap (λ x. take len piece ++ x) front ∙ sym (take-add len units piece) in
     subst (TextSpelling text) all (last text (take len piece) text units head contents)
+
+-- the row of a short head, told by the first bytes of a piece
+pub data Row (piece : List ℕ) (n len : ℕ) : Type 0 where
+  one : len ≡ 1 → 1 ≤ length piece → slice_index piece 0 ≤ 0x1f → n ≡ slice_index piece 0 → Row piece n len
+  two : len ≡ 2 → 2 ≤ length piece → 0x30 ≤ slice_index piece 0 → slice_index piece 0 ≤ 0x33 → n ≡ (slice_index piece 0 - 0x30) * 256 + slice_index piece 1 → Row piece n len
+
+head_row : (piece : List ℕ) (n len : ℕ) (head : List ℕ) → ChunkHead Text Final n head → head ≡ take len piece → len ≤ 2 → len ≤ length piece → Row piece n len
+head_row piece n len head (text_short c m h e) k few within =
+    let size : 1 ≡ len = ap length k ∙ length-take-le len piece within in
+    let here : c ∷ [] ≡ take 1 piece = subst (λ l. c ∷ [] ≡ take l piece) (sym size) k in
+    let first : c ≡ slice_index piece 0 = ap (λ l. slice_index l 0) (here ∙ sym (front_one piece (omega (arith, size, within)))) in
+    let most : c ≤ 0x1f = h.high in
+    one (sym size) (omega (arith, size, within)) (omega (arith, first, most)) (e ∙ first)
+head_row piece n len head (text_middle c b0 m h s e) k few within =
+    let size : 2 ≡ len = ap length k ∙ length-take-le len piece within in
+    let here : c ∷ b0 ∷ [] ≡ take 2 piece = subst (λ l. c ∷ b0 ∷ [] ≡ take l piece) (sym size) k in
+    let both : c ∷ b0 ∷ [] ≡ slice_index piece 0 ∷ slice_index piece 1 ∷ [] = here ∙ sym (front_two piece (omega (arith, size, within))) in
+    let first : c ≡ slice_index piece 0 = ap (λ l. slice_index l 0) both in
+    let second : b0 ≡ slice_index piece 1 = ap (λ l. slice_index l 1) both in
+    let least : 0x30 ≤ c = h.low in
+    let most : c ≤ 0x33 = h.high in
+    two (sym size) (omega (arith, size, within)) (omega (arith, first, least)) (omega (arith, first, most)) (omega (arith, e, first, second))
+head_row piece n len head (text_final b1 b0 m s1 s0 e) k few within =
+    let size : 3 ≡ len = ap length k ∙ length-take-le len piece within in
+    absurd (omega (arith, size, few))
+
+pub row_of : (piece : List ℕ) (n len : ℕ) → len ≤ 2 → len ≤ length piece → ChunkHead Text Final n (take len piece) → Row piece n len
+row_of piece n len few within h = head_row piece n len (take len piece) h refl few within

@@ -1,6 +1,7 @@
 pub mod ChunkHead
 pub mod Items
 pub mod Spelling
+pub mod AtOnce
 pub mod Refusal
 pub mod Written
 pub mod Residual

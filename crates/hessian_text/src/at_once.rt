@@ -1,6 +1,7 @@
-//! A text that is told at once: its only chunk lies whole at hand.
+//! A text that is told at once, where its bytes lie whole at hand.
 
-ghost use Rattle.std.specs.Prelude.{◌≡◌, ◌+◌, ◌≤◌, length, take, IfOk, IfSome, string_bytes};
+ghost use Rattle.std.specs.Prelude.{◌≡◌, ℕ, List, ◌+◌, ◌≤◌, length, take, IfOk, IfSome, IfNone, string_bytes};
+ghost use Rattle.hessian_text.specs.AtOnce.{LiesAtOnce};
 ghost use Rattle.hessian_text.specs.ChunkHead.{ChunkHead};
 ghost use Rattle.hessian_text.specs.Spelling.{TextSpelling};
 
@@ -13,6 +14,10 @@ fn short_head(piece: &[u8]) -> Option<Measure>
     ensures within { IfSome result (λ head. head.len ≤ length piece.now) }
     ensures head { IfSome result (λ head.
         ChunkHead Kind.Text Part.Final head.units (take head.len piece.now)) }
+    ensures only { IfSome result (λ head. (units len : ℕ) → len ≤ 2 → len ≤ length piece.now
+        → ChunkHead Kind.Text Part.Final units (take len piece.now) → (len ≡ head.len) × (units ≡ head.units)) }
+    ensures none { IfNone result ((units len : ℕ) → len ≤ 2 → len ≤ length piece.now
+        → ChunkHead Kind.Text Part.Final units (take len piece.now) → ⊥) }
 {
     match *piece.first()? {
         code @ 0x00..=0x1f => Some(Measure {
@@ -27,14 +32,17 @@ fn short_head(piece: &[u8]) -> Option<Measure>
     }
 }
 
-/// The text whose only chunk lies whole at the front of a piece, where that is told at once, and
-/// behind how many bytes it ends.
+/// The text that a front of a piece spells, where that is told at once, and behind how many bytes it
+/// ends.
 ///
-/// Nothing is told of a chunk that is long or not the last, nor of characters beyond ASCII.
+/// Nothing is told only where no text in ASCII lies there whole, in one chunk with a head of one byte
+/// or two.
 pub fn text_at_once(alloc: Global, piece: &[u8]) -> Result<Option<(String, usize)>, AllocError>
     ensures within { IfOk result (λ found. IfSome found (λ p. p.1 ≤ length piece.now)) }
     ensures spells { IfOk result (λ found. IfSome found (λ p.
         TextSpelling (string_bytes p.0) (take p.1 piece.now))) }
+    ensures none { IfOk result (λ found. IfNone found ((text : List ℕ) (len : ℕ)
+        → LiesAtOnce piece.now text len → ⊥)) }
 {
     let Some(head) = short_head(piece) else {
         return Ok(None);
