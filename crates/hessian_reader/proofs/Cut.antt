@@ -11,14 +11,14 @@ use Rattle.hessian_reader.specs.declared.element.Want.TheVariants as wants
 use Rattle.hessian_reader.specs.declared.element.Element.TheVariants as elements
 use Rattle.hessian_reader.specs.declared.fault.HessianFault.{HessianFault}
 use Rattle.hessian_reader.specs.declared.fault.HessianFault.TheVariants as told
-use Rattle.hessian_reader.specs.declared.reader.GraphReader.{GraphReader}
+use Rattle.hessian_reader.specs.declared.course.Course.{Course}
 use Rattle.hessian_reader.specs.Codes.{scalar_element}
 use Rattle.hessian_reader.specs.Leaves.{hessian, node_limit}
 use Rattle.hessian_reader.specs.Elements.{BeginsElement}
 use Rattle.hessian_reader.specs.Elements.TakesInt.{int as t_int, type as t_int_type}
 use Rattle.hessian_reader.specs.Elements.TakesText.{text as t_text}
 use Rattle.hessian_reader.specs.Elements.IsElement.{number as e_number, words as e_words}
-use Rattle.hessian_reader.specs.Reading.{Follows}
+use Rattle.hessian_reader.specs.Course.{Follows}
 use Rattle.hessian_reader.specs.Refusing.{IsStoppedBy, IsRefusedBy}
 use Rattle.hessian_reader.specs.States.{want_at, is_done}
 use Rattle.hessian_reader.specs.Views.{state_of}
@@ -40,7 +40,7 @@ begins_at w [] h = nothing_begins w
 begins_at w (c ∷ cs) h = h (λ e. cc)
 
 -- the bytes end in an element or before one, and the last root hasn't ended
-pub short_refused : (r : GraphReader) (roots : ℕ) (fed : List ℕ) → Follows r roots fed → AreBytes fed → is_done (state_of r.work) ≡ false → IsRefusedBy roots fed (told.Short (length fed))
+pub short_refused : (r : Course) (roots : ℕ) (fed : List ℕ) → Follows r roots fed → AreBytes fed → is_done (state_of r.work) ≡ false → IsRefusedBy roots fed (told.Short (length fed))
 short_refused r roots fed f small d =
     let joined : fed ≡ f.before ++ f.came = all_are r roots fed f d in
     let begins = begins_at (want_at r.work.place) f.came (λ some. subst (λ w. BeginsElement w f.came) f.wants (holds_begins r.lexer.want r.lexer.inside f.came (came_bytes r roots fed f small) f.holds some)) in

@@ -1,4 +1,4 @@
--- A reader that takes a piece, element by element.
+-- A course that takes a piece, element by element.
 use Rattle.std.proofs.Common.{◌≡◌, ◌≢◌, ℕ, zero, suc, ◌+◌, ◌-◌, ◌<◌, ◌≤◌, Bool, true, false, List, [], ◌++◌, length, take, drop, refl, ap, sym, ◌∙◌, subst, append_assoc, arith, length-append}
 use Rattle.std.proofs.Math.Seq.{take-add}
 use Rattle.std.proofs.lemmas.List.{append-nil, take-append-drop, take_at, take_all, length-take-le, length-drop, drop-drop}
@@ -7,31 +7,31 @@ use Rattle.hessian_text.specs.Spelling.{AreBytes}
 use Rattle.hessian_text.proofs.Advancing.{rest_is}
 use Rattle.hessian_reader.specs.declared.fault.HessianFault.{HessianFault}
 use Rattle.hessian_reader.specs.declared.reader.Fed.TheVariants as told
-use Rattle.hessian_reader.specs.declared.reader.GraphReader.{GraphReader}
+use Rattle.hessian_reader.specs.declared.course.Course.{Course}
 use Rattle.hessian_reader.specs.declared.work.Work.{Work}
 use Rattle.hessian_reader.specs.Elements.{BeginsElement}
 use Rattle.hessian_reader.specs.Lexing.{Holds}
 use Rattle.hessian_reader.specs.States.{State, start, want_at, is_done, graph_of}
 use Rattle.hessian_reader.specs.Steps.{Leads}
 use Rattle.hessian_reader.specs.Views.{state_of}
-use Rattle.hessian_reader.specs.Reading.{EndsAt, NeverEnds, Tells, Follows, IsStuck, StopsIn, TakesOne, TakesSome, GoesOn, Passes, HasRead}
+use Rattle.hessian_reader.specs.Course.{EndsAt, NeverEnds, Tells, Follows, IsStuck, StopsIn, TakesOne, TakesSome, GoesOn, Passes, HasRead}
 use Rattle.hessian_reader.specs.Refusing.{IsStoppedBy}
 use Rattle.hessian_reader.proofs.Elements.{holds_begins}
 use Rattle.hessian_reader.proofs.OneWay.{bytes_front, bytes_rest, bytes_both, leads_more, never_ends, begun_blocked, stuck_never_ends}
 use Rattle.hessian_reader.proofs.Running.{denotes}
 use Rattle.hessian_reader.proofs.Runs.{leads_join}
 
--- the reader has taken this front of a piece; what is behind an element's end has just begun
-pub record Stands (r : GraphReader) (roots : ℕ) (fed front : List ℕ) : Type 0 where
+-- the course has taken this front of a piece; what is behind an element's end has just begun
+pub record Stands (r : Course) (roots : ℕ) (fed front : List ℕ) : Type 0 where
   pub follows : Follows r roots (fed ++ front)
   pub fresh : front ≢ [] → (follows.came ≡ []) × (follows.unread ≡ [])
 
-pub stands_first : (r : GraphReader) (roots : ℕ) (fed : List ℕ) → Follows r roots fed → Stands r roots fed []
+pub stands_first : (r : Course) (roots : ℕ) (fed : List ℕ) → Follows r roots fed → Stands r roots fed []
 stands_first r roots fed f = record { follows = subst (Follows r roots) (sym (append-nil fed)) f; fresh = λ h. absurd (h refl) }
 
 -- the bytes of the element that has begun
 
-module _ (r : GraphReader) (roots : ℕ) (all : List ℕ) (f : Follows r roots all) where
+module _ (r : Course) (roots : ℕ) (all : List ℕ) (f : Follows r roots all) where
   pub came_bytes : AreBytes all → AreBytes f.came
   came_bytes small = bytes_front f.came f.unread (bytes_rest f.before (f.came ++ f.unread) (subst AreBytes f.joined small))
 
@@ -51,7 +51,7 @@ split fed piece n = ap (λ x. fed ++ x) (sym (take-append-drop n piece)) ∙ sym
 
 -- an element goes on behind the piece
 
-pub goes_behind : (old new : GraphReader) (roots : ℕ) (fed piece : List ℕ) (n : ℕ) (st : Stands old roots fed (take n piece)) → is_done (state_of old.work) ≡ false → GoesOn old new st.follows.came (drop n piece) → Follows new roots (fed ++ piece)
+pub goes_behind : (old new : Course) (roots : ℕ) (fed piece : List ℕ) (n : ℕ) (st : Stands old roots fed (take n piece)) → is_done (state_of old.work) ≡ false → GoesOn old new st.follows.came (drop n piece) → Follows new roots (fed ++ piece)
 goes_behind old new roots fed piece n st d g =
     let f = st.follows in
     let more : List ℕ = f.came ++ drop n piece in
@@ -74,7 +74,7 @@ goes_behind old new roots fed piece n st d g =
 not_nil : (n : ℕ) (xs : List ℕ) → 0 < n → n ≤ length xs → take n xs ≢ []
 not_nil n xs some within e = let h = length-take-le n xs within in let z : length (take n xs) ≡ 0 = ap length e in omega (arith, h, z, some)
 
-pub takes_behind : (old new : GraphReader) (roots : ℕ) (fed piece : List ℕ) (n used at : ℕ) (st : Stands old roots fed (take n piece)) → n ≤ length piece → at ≡ length fed + n → is_done (state_of old.work) ≡ false → TakesOne old new at st.follows.came (drop n piece) used → Stands new roots fed (take (n + used) piece)
+pub takes_behind : (old new : Course) (roots : ℕ) (fed piece : List ℕ) (n used at : ℕ) (st : Stands old roots fed (take n piece)) → n ≤ length piece → at ≡ length fed + n → is_done (state_of old.work) ≡ false → TakesOne old new at st.follows.came (drop n piece) used → Stands new roots fed (take (n + used) piece)
 takes_behind old new roots fed piece n used at st low place d g =
     let f = st.follows in
     let el : List ℕ = f.came ++ take used (drop n piece) in
@@ -105,7 +105,7 @@ takes_behind old new roots fed piece n used at st low place d g =
 
 -- and the elements that lie whole behind it
 
-runs_behind : (middle new : GraphReader) (roots : ℕ) (fed piece : List ℕ) (n more : ℕ) → Stands middle roots fed (take n piece) → 0 < n → n ≤ length piece → more ≤ length (drop n piece) → Leads (state_of middle.work) (take more (drop n piece)) (state_of new.work) → new.from ≡ middle.from + more → new.lexer.want ≡ want_at new.work.place → Holds new.lexer.want new.lexer.inside [] → Stands new roots fed (take (n + more) piece)
+runs_behind : (middle new : Course) (roots : ℕ) (fed piece : List ℕ) (n more : ℕ) → Stands middle roots fed (take n piece) → 0 < n → n ≤ length piece → more ≤ length (drop n piece) → Leads (state_of middle.work) (take more (drop n piece)) (state_of new.work) → new.from ≡ middle.from + more → new.lexer.want ≡ want_at new.work.place → Holds new.lexer.want new.lexer.inside [] → Stands new roots fed (take (n + more) piece)
 runs_behind middle new roots fed piece n more st some low within leads from wants nothing =
     let f = st.follows in
     let none = st.fresh (not_nil n piece some low) in
@@ -131,7 +131,7 @@ runs_behind middle new roots fed piece n more st some low within leads from want
       fresh = λ h. (refl, refl);
     }
 
-pub some_behind : (old new : GraphReader) (roots : ℕ) (fed piece : List ℕ) (n used at : ℕ) (st : Stands old roots fed (take n piece)) → n ≤ length piece → at ≡ length fed + n → is_done (state_of old.work) ≡ false → TakesSome old new at st.follows.came (drop n piece) used → Stands new roots fed (take (n + used) piece)
+pub some_behind : (old new : Course) (roots : ℕ) (fed piece : List ℕ) (n used at : ℕ) (st : Stands old roots fed (take n piece)) → n ≤ length piece → at ≡ length fed + n → is_done (state_of old.work) ≡ false → TakesSome old new at st.follows.came (drop n piece) used → Stands new roots fed (take (n + used) piece)
 some_behind old new roots fed piece n used at st low place d g =
     let first = takes_behind old g.middle roots fed piece n g.first at st low place d g.one in
     let some = g.one.some in
@@ -148,14 +148,14 @@ some_behind old new roots fed piece n used at st low place d g =
 
 -- an element is refused, or can't go on
 
-pub stuck_behind : (old : GraphReader) (roots : ℕ) (fed piece : List ℕ) (n : ℕ) (st : Stands old roots fed (take n piece)) → AreBytes (fed ++ piece) → is_done (state_of old.work) ≡ false → IsStuck (state_of old.work) st.follows.came (drop n piece) → NeverEnds roots (fed ++ piece)
+pub stuck_behind : (old : Course) (roots : ℕ) (fed piece : List ℕ) (n : ℕ) (st : Stands old roots fed (take n piece)) → AreBytes (fed ++ piece) → is_done (state_of old.work) ≡ false → IsStuck (state_of old.work) st.follows.came (drop n piece) → NeverEnds roots (fed ++ piece)
 stuck_behind old roots fed piece n st small d stuck =
     let f = st.follows in
     let joined : fed ++ piece ≡ f.before ++ (f.came ++ drop n piece) = split fed piece n ∙ ap (λ x. x ++ drop n piece) (all_are old roots (fed ++ take n piece) f d) ∙ append_assoc f.before f.came (drop n piece) in
     stuck_never_ends roots f.before f.came (drop n piece) (fed ++ piece) (state_of old.work) small joined f.leads d stuck
 
 -- and stops where the fault says
-pub stops_behind : (old : GraphReader) (roots : ℕ) (fed piece : List ℕ) (n at : ℕ) (fault : HessianFault) (st : Stands old roots fed (take n piece)) → n ≤ length piece → at ≡ length fed + n → AreBytes fed → AreBytes piece → is_done (state_of old.work) ≡ false → StopsIn old at (drop n piece) fault → IsStoppedBy roots (fed ++ piece) fault
+pub stops_behind : (old : Course) (roots : ℕ) (fed piece : List ℕ) (n at : ℕ) (fault : HessianFault) (st : Stands old roots fed (take n piece)) → n ≤ length piece → at ≡ length fed + n → AreBytes fed → AreBytes piece → is_done (state_of old.work) ≡ false → StopsIn old at (drop n piece) fault → IsStoppedBy roots (fed ++ piece) fault
 stops_behind old roots fed piece n at fault st within place small small' d stops =
     let f = st.follows in
     let front : fed ++ take n piece ≡ f.before ++ f.came = all_are old roots (fed ++ take n piece) f d in
@@ -167,7 +167,7 @@ stops_behind old roots fed piece n at fault st within place small small' d stops
 
 -- the last root has ended
 
-pub done_follows : (r : GraphReader) (roots : ℕ) (fed piece : List ℕ) (n : ℕ) → Stands r roots fed (take n piece) → is_done (state_of r.work) ≡ true → Follows r roots (fed ++ piece)
+pub done_follows : (r : Course) (roots : ℕ) (fed piece : List ℕ) (n : ℕ) → Stands r roots fed (take n piece) → is_done (state_of r.work) ≡ true → Follows r roots (fed ++ piece)
 done_follows r roots fed piece n st e =
     let f = st.follows in
     record {
@@ -183,7 +183,7 @@ done_follows r roots fed piece n st e =
       going = λ z. let bad : true ≡ false = sym e ∙ z in absurd cc;
     }
 
-pub ends_at : (r : GraphReader) (roots : ℕ) (all : List ℕ) (f : Follows r roots all) → is_done (state_of r.work) ≡ true → EndsAt roots all (length f.before)
+pub ends_at : (r : Course) (roots : ℕ) (all : List ℕ) (f : Follows r roots all) → is_done (state_of r.work) ≡ true → EndsAt roots all (length f.before)
 ends_at r roots all f e =
     let whole = denotes roots f.before (state_of r.work) f.leads e in
     let front : take (length f.before) all ≡ f.before = ap (take (length f.before)) f.joined ∙ take_at f.before (f.came ++ f.unread) (length f.before) refl in
@@ -195,7 +195,7 @@ ends_at r roots all f e =
       roots_are = whole.roots_are;
     }
 
-used_is : (r : GraphReader) (roots : ℕ) (fed piece : List ℕ) (n : ℕ) → n ≤ length piece → (st : Stands r roots fed (take n piece)) → n ≡ length st.follows.before - length fed
+used_is : (r : Course) (roots : ℕ) (fed piece : List ℕ) (n : ℕ) → n ≤ length piece → (st : Stands r roots fed (take n piece)) → n ≡ length st.follows.before - length fed
 used_is r roots fed piece zero low st =
     let f = st.follows in
     let len : length fed + 0 ≡ length f.before + length (f.came ++ f.unread) = sym (length-append fed []) ∙ ap length f.joined ∙ length-append f.before (f.came ++ f.unread) in
@@ -208,17 +208,17 @@ used_is r roots fed piece (suc n) low st =
     let len2 : length fed + length (take (suc n) piece) ≡ length f.before = sym (length-append fed (take (suc n) piece)) ∙ ap length whole in
     omega (arith, len1, len2)
 
-pub tells_done : (r : GraphReader) (roots : ℕ) (fed piece : List ℕ) (n : ℕ) → n ≤ length piece → Stands r roots fed (take n piece) → is_done (state_of r.work) ≡ true → Tells roots fed piece (told.Done n)
+pub tells_done : (r : Course) (roots : ℕ) (fed piece : List ℕ) (n : ℕ) → n ≤ length piece → Stands r roots fed (take n piece) → is_done (state_of r.work) ≡ true → Tells roots fed piece (told.Done n)
 unfolding done_follows
 tells_done r roots fed piece n low st e = (length st.follows.before, ends_at r roots (fed ++ piece) (done_follows r roots fed piece n st e) e, used_is r roots fed piece n low st, low)
 
--- what a call of the reader takes for granted
+-- what a call of the course takes for granted
 
 pub front_bytes_of : (fed piece : List ℕ) (n : ℕ) → AreBytes fed → AreBytes piece → AreBytes (fed ++ take n piece)
 front_bytes_of fed piece n small small' = bytes_both fed (take n piece) small (bytes_front (take n piece) (drop n piece) (subst AreBytes (sym (take-append-drop n piece)) small'))
 
 -- what the clause of the next element says of the element that has begun
-pub passes_at : (r new : GraphReader) (roots : ℕ) (fed piece : List ℕ) (n at : ℕ) (answer : Result (Option ℕ) HessianFault) (st : Stands r roots fed (take n piece)) → AreBytes fed → AreBytes piece → ((came : List ℕ) → AreBytes came → r.lexer.want ≡ want_at r.work.place → Holds r.lexer.want r.lexer.inside came → Passes r at came (take (length piece - n) (drop n piece)) new answer) → Passes r at st.follows.came (drop n piece) new answer
+pub passes_at : (r new : Course) (roots : ℕ) (fed piece : List ℕ) (n at : ℕ) (answer : Result (Option ℕ) HessianFault) (st : Stands r roots fed (take n piece)) → AreBytes fed → AreBytes piece → ((came : List ℕ) → AreBytes came → r.lexer.want ≡ want_at r.work.place → Holds r.lexer.want r.lexer.inside came → Passes r at came (take (length piece - n) (drop n piece)) new answer) → Passes r at st.follows.came (drop n piece) new answer
 passes_at r new roots fed piece n at answer st small small' nexts =
     let f = st.follows in
     subst (λ p. Passes r at f.came p new answer) (rest_is n piece) (nexts f.came (came_bytes r roots (fed ++ take n piece) f (front_bytes_of fed piece n small small')) f.wants f.holds)
@@ -230,18 +230,18 @@ pub done_is : (b : Bool) (s : State) → b ≡ is_done s → b ≡ true → is_d
 done_is b s e f = sym e ∙ f
 
 -- the whole piece was taken, and the last root hasn't ended
-pub all_taken : (r : GraphReader) (roots : ℕ) (fed piece : List ℕ) (n : ℕ) → length piece ≤ n → Stands r roots fed (take n piece) → Follows r roots (fed ++ piece)
+pub all_taken : (r : Course) (roots : ℕ) (fed piece : List ℕ) (n : ℕ) → length piece ≤ n → Stands r roots fed (take n piece) → Follows r roots (fed ++ piece)
 all_taken r roots fed piece n high st = subst (λ x. Follows r roots (fed ++ x)) (take_all n piece high) st.follows
 
 -- the number of the bytes that were fed is kept apart
-pub recounted : (r : GraphReader) (count roots : ℕ) (all : List ℕ) → Follows r roots all → Follows (record r { fed = count }) roots all
+pub recounted : (r : Course) (count roots : ℕ) (all : List ℕ) → Follows r roots all → Follows (record r { fed = count }) roots all
 recounted r count roots all f = record { before = f.before; came = f.came; unread = f.unread; joined = f.joined; leads = f.leads; wants = f.wants; holds = f.holds; from = f.from; over = f.over; going = f.going }
 
 -- what never ends never ends behind more bytes
 pub never_later : (roots : ℕ) (fed piece : List ℕ) → AreBytes piece → NeverEnds roots fed → NeverEnds roots (fed ++ piece)
 never_later roots fed piece small never more n small' ends = never (piece ++ more) n (bytes_both piece more small small') (subst (λ x. EndsAt roots x n) (append_assoc fed piece more) ends)
 
-pub read_on : (r : GraphReader) (roots : ℕ) (fed piece : List ℕ) → AreBytes fed → AreBytes piece → r.fed ≡ length fed → r.refused ≡ None → Follows r roots (fed ++ piece) → HasRead (record r { fed = r.fed + length piece }) roots (fed ++ piece)
+pub read_on : (r : Course) (roots : ℕ) (fed piece : List ℕ) → AreBytes fed → AreBytes piece → r.fed ≡ length fed → r.refused ≡ None → Follows r roots (fed ++ piece) → HasRead (record r { fed = r.fed + length piece }) roots (fed ++ piece)
 read_on r roots fed piece small small' count none f =
     let len = length-append fed piece in
     record {

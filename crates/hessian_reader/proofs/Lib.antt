@@ -16,6 +16,8 @@ pub mod Paired
 pub mod Feeding
 pub mod Runs
 pub mod Finishing
+pub mod Denoted
+pub mod Known
 pub mod Taking
 pub mod LexScalars
 pub mod LexChunks

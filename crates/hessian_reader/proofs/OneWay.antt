@@ -13,7 +13,7 @@ use Rattle.hessian_reader.specs.Elements.{IsElement, BeginsElement}
 use Rattle.hessian_reader.specs.States.{State, start, want_at, is_done, graph_of}
 use Rattle.hessian_reader.specs.Steps.{Outcome, take_element, Leads}
 use Rattle.hessian_reader.specs.Steps.Leads.{here, on}
-use Rattle.hessian_reader.specs.Reading.{EndsAt, NeverEnds, IsStuck}
+use Rattle.hessian_reader.specs.Course.{EndsAt, NeverEnds, IsStuck}
 use Rattle.hessian_reader.proofs.Elements.{element_some, one_element}
 use Rattle.hessian_reader.proofs.Outcomes.{ok_is}
 use Rattle.hessian_reader.proofs.Running.{reads}

@@ -7,7 +7,7 @@ use Rattle.hessian_graph.specs.Refusal.{Cause, Short, Refusal}
 use Rattle.hessian_text.specs.Spelling.{AreBytes}
 use Rattle.hessian_reader.specs.Leaves.{hessian, node_limit, IsDenoted}
 use Rattle.hessian_reader.specs.Faults.{faults}
-use Rattle.hessian_reader.specs.Reading.{EndsAt}
+use Rattle.hessian_reader.specs.Course.{EndsAt}
 use Rattle.hessian_reader.specs.States.{start}
 use Rattle.hessian_reader.specs.Steps.{Leads}
 use Rattle.hessian_reader.proofs.Running.{reads}

@@ -7,13 +7,13 @@ use Rattle.hessian_graph.specs.Shape.{Shape, shape_of}
 use Rattle.hessian_text.specs.Spelling.{AreBytes}
 use Rattle.hessian_reader.specs.declared.fault.HessianFault.{HessianFault}
 use Rattle.hessian_reader.specs.declared.fault.HessianFault.TheVariants.{Short, Double, BadCode, BadText, BadRef, BadType, BadClass, BadLength, TooManyNodes, Trailing, OutOfMemory}
-use Rattle.hessian_reader.specs.declared.reader.GraphReader.{GraphReader}
+use Rattle.hessian_reader.specs.declared.course.Course.{Course}
 use Rattle.hessian_reader.specs.Leaves.{IsDenoted}
 use Rattle.hessian_reader.specs.Finish.{MapsAreWhole}
 use Rattle.hessian_reader.specs.States.{State, start, is_done, graph_of}
 use Rattle.hessian_reader.specs.Steps.{Leads}
 use Rattle.hessian_reader.specs.Views.{state_of}
-use Rattle.hessian_reader.specs.Reading.{EndsAt, NeverEnds, Follows}
+use Rattle.hessian_reader.specs.Course.{EndsAt, NeverEnds, Follows}
 use Rattle.hessian_reader.proofs.Running.{reads, denotes}
 use Rattle.hessian_reader.proofs.Paired.{maps_whole}
 use Rattle.hessian_reader.proofs.OneWay.{Fronts, first_shorter, second_shorter, fronts, bytes_front, leads_on, leads_end, one_graph, parted}
@@ -45,7 +45,7 @@ ends_whole roots bytes g d e = record { graph = g; within = omega arith; denoted
 abbrev pub IsFront : ℕ → List ℕ → Parts → Type 0
 IsFront roots fed g = (n : ℕ) × (n ≤ length fed) × IsDenoted (take n fed) (shape_of g) × (length g.roots ≡ roots)
 
-pub finished : (r : GraphReader) (roots : ℕ) (fed : List ℕ) (result : Result Parts HessianFault) → Follows r roots fed → is_done (state_of r.work) ≡ true → IfOk result (λ g. g.roots ≡ (graph_of (state_of r.work)).roots) → IfOk result (λ g. MapsAreWhole (state_of r.work) → shape_of g ≡ graph_of (state_of r.work)) → IfOk result (IsFront roots fed)
+pub finished : (r : Course) (roots : ℕ) (fed : List ℕ) (result : Result Parts HessianFault) → Follows r roots fed → is_done (state_of r.work) ≡ true → IfOk result (λ g. g.roots ≡ (graph_of (state_of r.work)).roots) → IfOk result (λ g. MapsAreWhole (state_of r.work) → shape_of g ≡ graph_of (state_of r.work)) → IfOk result (IsFront roots fed)
 finished r roots fed (Err fault) f e is_roots is_shape = tt
 finished r roots fed (Ok g) f e is_roots is_shape =
     let s : State = state_of r.work in

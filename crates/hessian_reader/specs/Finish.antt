@@ -3,6 +3,8 @@ use Rattle.std.specs.Prelude.{◌≡◌, ℕ, ◌<◌, List, length, get_or}
 use Rattle.hessian_graph.specs.declared.value.Value.{Value}
 use Rattle.hessian_graph.specs.declared.node.Node.{Node}
 use Rattle.hessian_graph.specs.declared.node.Node.TheVariants as nodes
+use Rattle.hessian_graph.specs.declared.parts.Parts.{Parts}
+use Rattle.hessian_graph.specs.Faults.{IsSound}
 use Rattle.hessian_graph.specs.Shape.{no_vertex, alternately}
 use Rattle.hessian_graph.specs.Spells.{ArePairs}
 use Rattle.hessian_reader.specs.declared.store.Sort.{Sort}
@@ -28,3 +30,14 @@ IsWhole (sorts.Object k) vs = Unit {0}
 
 abbrev pub MapsAreWhole : State → Type 0
 MapsAreWhole s = (i : ℕ) → i < length s.built.nodes → IsWhole (sort_at s.built.nodes i) (values_so_far s.built.nodes i)
+
+-- the parts are made of the state: they are its roots, its nodes and its names
+pub record AreParts (s : State) (p : Parts) : Type 0 where
+  pub roots : p.roots ≡ s.built.roots
+  pub nodes : AreNodesOf s.built.nodes p.nodes
+  pub types : p.types ≡ s.names.types
+  pub classes : p.classes ≡ s.names.classes
+
+-- parts that are made of the state are sound
+abbrev pub MakesSound : State → Type 0
+MakesSound s = (p : Parts) → AreParts s p → IsSound p

@@ -11,5 +11,6 @@ pub mod Starting
 pub mod Slots
 pub mod Faults
 pub mod Refusing
+pub mod Course
 pub mod Reading
 pub mod Runs

@@ -1,16 +1,16 @@
 //! The graph of a reading that is done.
 
-ghost use Rattle.std.specs.Prelude.{◌≡◌, ◌≤◌, ℕ, List, length, IfOk, IfErr};
+ghost use Rattle.std.specs.Prelude.{◌≡◌, ◌<◌, ◌^◌, ℕ, List, length, IfOk, IfErr};
 ghost use Rattle.hessian_graph.specs.Shape.{alternately, shape_of};
 ghost use Rattle.hessian_graph.specs.Spells.{ArePairs};
 ghost use Rattle.hessian_reader.specs.States.{graph_of as graph};
 ghost use Rattle.hessian_reader.specs.Views.{state_of};
-ghost use Rattle.hessian_reader.specs.Finish.{IsNodeOf, AreNodesOf, MapsAreWhole};
+ghost use Rattle.hessian_reader.specs.Finish.{IsNodeOf, AreNodesOf, MapsAreWhole, MakesSound};
 
 use crate::fault::HessianFault;
 use crate::grow::push;
 use crate::store::{Begun, Growing, Sort};
-use crate::work::{NODE_LIMIT, Work};
+use crate::work::Work;
 use hessian_graph::{Graph, Items, Node, Nodes, Pair, Pairs, Parts, Value};
 use std::alloc::{AllocError, Global};
 
@@ -68,6 +68,8 @@ fn nodes_of(alloc: Global, begun: Vec<Begun>) -> Result<Vec<Node>, AllocError>
 
 /// The graph that was read.
 pub fn graph_of(work: Work) -> Result<Graph, HessianFault>
+    requires sound { MakesSound (state_of work) }
+    requires few { length work.store.nodes.items < 2 ^ 32 }
     ensures roots { IfOk result (λ g. g.roots ≡ (graph (state_of work)).roots) }
     ensures shape { IfOk result (λ g. MapsAreWhole (state_of work) → shape_of g ≡ graph (state_of work)) }
     ensures memory { IfErr result (λ fault. fault ≡ HessianFault.OutOfMemory) }
@@ -85,11 +87,5 @@ pub fn graph_of(work: Work) -> Result<Graph, HessianFault>
         types,
         classes,
     };
-    if parts.nodes.as_slice().len() > NODE_LIMIT {
-        return Err(HessianFault::OutOfMemory);
-    }
-    match Graph::from_parts(parts) {
-        Ok(graph) => Ok(graph),
-        Err(_) => Err(HessianFault::OutOfMemory),
-    }
+    Ok(Graph::from_sound(parts))
 }

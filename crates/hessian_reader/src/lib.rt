@@ -5,6 +5,7 @@
 #![tactic(auto)]
 
 mod chunks;
+mod course;
 mod element;
 mod fault;
 mod finish;

@@ -1,7 +1,7 @@
 use Rattle.hessian_reader.specs.Steps.{take_element}
 use Rattle.hessian_reader.specs.Views.{state_of}
 use Rattle.hessian_reader.proofs.Taking.{objected, objected_as}
-use Rattle.hessian_reader.proofs.reader.GraphReader.take.Goals as goal
+use Rattle.hessian_reader.proofs.course.Course.take.Goals as goal
 
 pub returns-in-Err-clause-took : goal.returns-in-Err-clause-took
 returns-in-Err-clause-took c =

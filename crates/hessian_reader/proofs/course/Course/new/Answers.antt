@@ -4,7 +4,7 @@ use Rattle.hessian_reader.specs.Lexing.{Holds}
 use Rattle.hessian_reader.specs.States.{State, start}
 use Rattle.hessian_reader.specs.Steps.{Leads}
 use Rattle.hessian_reader.specs.Steps.Leads.{here}
-use Rattle.hessian_reader.proofs.reader.GraphReader.new.Goals as goal
+use Rattle.hessian_reader.proofs.course.Course.new.Goals as goal
 
 pub returns-clause-begins : goal.returns-clause-begins
 returns-clause-begins c = record {

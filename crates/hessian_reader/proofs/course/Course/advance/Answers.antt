@@ -4,10 +4,10 @@ use Rattle.std.specs.Prelude.{Ok, Err, IfSome}
 use Rattle.hessian_text.specs.Spelling.{AreBytes}
 use Rattle.hessian_text.proofs.Advancing.{rest_is}
 use Rattle.hessian_reader.specs.Views.{state_of}
-use Rattle.hessian_reader.specs.Reading.{TakesSome, GoesOn, Passes, StopsIn}
+use Rattle.hessian_reader.specs.Course.{TakesSome, GoesOn, Passes, StopsIn}
 use Rattle.hessian_reader.proofs.OneWay.{bytes_both}
 use Rattle.hessian_reader.proofs.Feeding.{Stands, passes_at, not_done_is, done_is, some_behind, goes_behind, stuck_behind, stops_behind, done_follows, tells_done, not_ended, all_taken}
-use Rattle.hessian_reader.proofs.reader.GraphReader.advance.Goals as goal
+use Rattle.hessian_reader.proofs.course.Course.advance.Goals as goal
 
 pub loop-taken-preserved : goal.loop-taken-preserved
 loop-taken-preserved c =

@@ -5,7 +5,16 @@ use Rattle.hessian_reader.proofs.Feeding.{done_is, not_done_is, not_ended}
 use Rattle.hessian_reader.specs.Refusing.{IsRefusedBy}
 use Rattle.hessian_reader.proofs.Whole.{finished}
 use Rattle.hessian_reader.proofs.Cut.{short_refused, stopped_refused, memory_only}
-use Rattle.hessian_reader.proofs.reader.GraphReader.finish.Goals as goal
+use Rattle.hessian_reader.proofs.Known.{known_sound, known_few}
+use Rattle.hessian_reader.proofs.course.Course.finish.Goals as goal
+
+pub graph_of-requires-clause-sound : goal.graph_of-requires-clause-sound
+graph_of-requires-clause-sound c =
+    let r = c.args.self in
+    known_sound r c.in_default.is c.requires.known (done_is c.is_done.result (state_of r.work) c.is_done.ensures c.if-is_done.true)
+
+pub graph_of-requires-clause-few : goal.graph_of-requires-clause-few
+graph_of-requires-clause-few c = known_few c.args.self c.in_default.is c.requires.known
 
 pub returns-then-is_done-clause-ok : goal.returns-then-is_done-clause-ok
 returns-then-is_done-clause-ok c = λ roots fed read.

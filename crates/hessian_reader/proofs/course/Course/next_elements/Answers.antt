@@ -3,10 +3,10 @@ use Rattle.std.specs.Prelude.{Ok}
 use Rattle.hessian_text.proofs.Advancing.{rest_is}
 use Rattle.hessian_reader.specs.declared.lexer.Lexer.{Lexer}
 use Rattle.hessian_reader.specs.Lexing.{Holds}
-use Rattle.hessian_reader.specs.Reading.{TakesOne, Nexts}
+use Rattle.hessian_reader.specs.Course.{TakesOne, Nexts}
 use Rattle.hessian_reader.specs.Steps.{Leads}
 use Rattle.hessian_reader.specs.Views.{state_of}
-use Rattle.hessian_reader.proofs.reader.GraphReader.next_elements.Goals as goal
+use Rattle.hessian_reader.proofs.course.Course.next_elements.Goals as goal
 
 pub returns-in-Ok-clause-passes : goal.returns-in-Ok-clause-passes
 returns-in-Ok-clause-passes c = λ came small wants holds.

@@ -7,12 +7,12 @@ use Rattle.hessian_reader.specs.declared.lexer.Inside.{Inside}
 use Rattle.hessian_reader.specs.Elements.{IsElement}
 use Rattle.hessian_reader.specs.Faults.{cause_of}
 use Rattle.hessian_reader.specs.Lexing.{Holds}
-use Rattle.hessian_reader.specs.Reading.{StopsIn}
+use Rattle.hessian_reader.specs.Course.{StopsIn}
 use Rattle.hessian_reader.specs.Refusing.{fault_of, IsStoppedBy}
 use Rattle.hessian_reader.specs.Views.{state_of}
 use Rattle.hessian_reader.proofs.Refusals.{element_refused}
 use Rattle.hessian_reader.proofs.Taking.{begun_anew, ends_later, passed_on}
-use Rattle.hessian_reader.proofs.reader.GraphReader.next_element.Goals as goal
+use Rattle.hessian_reader.proofs.course.Course.next_element.Goals as goal
 
 pub returns-in_ok-take_here-in-Some-clause-nexts : goal.returns-in_ok-take_here-in-Some-clause-nexts
 returns-in_ok-take_here-in-Some-clause-nexts c = λ came small wants holds.

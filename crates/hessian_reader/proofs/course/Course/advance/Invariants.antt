@@ -1,10 +1,10 @@
 use Rattle.std.proofs.Common.{◌≡◌, ◌-◌, ◌≤◌, ℕ, List, length, take}
 use Rattle.hessian_text.specs.Spelling.{AreBytes}
-use Rattle.hessian_reader.specs.Reading.{Follows}
+use Rattle.hessian_reader.specs.Course.{Follows}
 use Rattle.hessian_reader.proofs.Feeding.{Stands}
-use Rattle.hessian_reader.proofs.reader.GraphReader.advance.Given as goal
+use Rattle.hessian_reader.proofs.course.Course.advance.Given as goal
 
--- the reader has taken the front of the piece
+-- the course has taken the front of the piece
 abbrev pub invariant-loop-taken : goal.invariant-loop-taken
 invariant-loop-taken l = record {
   low : l.taken ≤ length l.piece;

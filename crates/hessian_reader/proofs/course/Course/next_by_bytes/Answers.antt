@@ -3,7 +3,7 @@ use Rattle.hessian_text.specs.Spelling.{AreBytes}
 use Rattle.hessian_reader.specs.declared.fault.HessianFault.{HessianFault}
 use Rattle.hessian_reader.specs.declared.fault.HessianFault.TheVariants as told
 use Rattle.hessian_reader.specs.Faults.{cause_of}
-use Rattle.hessian_reader.specs.Reading.{StopsIn}
+use Rattle.hessian_reader.specs.Course.{StopsIn}
 use Rattle.hessian_reader.specs.declared.lexer.Lexed.TheVariants as lexed
 use Rattle.hessian_reader.specs.Refusing.{fault_of, RefusesByte, IsStoppedBy}
 use Rattle.hessian_reader.specs.Views.{state_of}
@@ -13,7 +13,7 @@ use Rattle.hessian_reader.specs.declared.lexer.Inside.{Inside}
 use Rattle.hessian_reader.specs.Elements.{IsElement}
 use Rattle.hessian_reader.specs.Lexing.{Holds, IsWithin, Lexes}
 use Rattle.hessian_reader.proofs.Taking.{ends_later, passed_on}
-use Rattle.hessian_reader.proofs.reader.GraphReader.next_by_bytes.Goals as goal
+use Rattle.hessian_reader.proofs.course.Course.next_by_bytes.Goals as goal
 
 pub returns-in_ok-take-in-Whole-clause-nexts : goal.returns-in_ok-take-in-Whole-clause-nexts
 returns-in_ok-take-in-Whole-clause-nexts c = λ came small wants holds.
