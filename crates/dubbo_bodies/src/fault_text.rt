@@ -1,4 +1,4 @@
-//! The texts of the faults of bodies and descriptors, as commands and providers write them. They take no memory.
+//! The texts of the faults of bodies, descriptors and bytes, as commands and providers write them. They take no memory.
 
 ghost use Rattle.std.specs.Prelude.{◌≡◌, ◌+◌, ◌<◌, ◌≤◌, ◌++◌, codes, length};
 ghost use Rattle.std.specs.Fmt.{signed_decimal};
@@ -13,13 +13,13 @@ use itoa::Buffer;
 /// Room for the text of any fault.
 pub type FaultText = ArrayString<48>;
 
-/// The text of a fault of a reply: a word, and its places and numbers in decimal; empty for want of memory.
+/// The text of a fault of a reply: a word, its places and numbers in decimal, its codes in two hexadecimal digits; empty for want of memory.
 pub fn reply_text(fault: ReplyFault) -> FaultText
     ensures { result.bytes ≡ reply_words fault }
 {
     match fault {
         ReplyFault::BadSerial { number } => placed("serial", u64::from(number)),
-        ReplyFault::Hessian(fault) => hessian_text(fault),
+        ReplyFault::Hessian(fault) => bytes_text(fault),
         ReplyFault::BadKind { number } => kind_text(number),
         ReplyFault::BadAttachments => word("attachments"),
         ReplyFault::OutOfMemory => FaultText::new(),
@@ -32,7 +32,7 @@ pub fn request_text(fault: RequestFault) -> FaultText
 {
     match fault {
         RequestFault::BadSerial { number } => placed("serial", u64::from(number)),
-        RequestFault::Hessian(fault) => hessian_text(fault),
+        RequestFault::Hessian(fault) => bytes_text(fault),
         RequestFault::NotText { field } => placed("field", u64::from(field)),
         RequestFault::Descriptor(fault) => descriptor_text(fault),
         RequestFault::BadAttachments => word("attachments"),
@@ -40,8 +40,8 @@ pub fn request_text(fault: RequestFault) -> FaultText
     }
 }
 
-/// The text of bytes that are no values.
-fn hessian_text(fault: HessianFault) -> FaultText
+/// The text of a fault of bytes that are no values, in the same form.
+pub fn bytes_text(fault: HessianFault) -> FaultText
     ensures { result.bytes ≡ hessian_words fault }
 {
     match fault {

@@ -28,7 +28,7 @@ mod writing;
 pub use attachment::{Attachment, Attachments};
 pub use descriptor::{MOST_ARGS, count_args};
 pub use fault::{DescFault, RequestFault, WriteBodyFault};
-pub use fault_text::{FaultText, reply_text, request_text};
+pub use fault_text::{FaultText, bytes_text, reply_text, request_text};
 pub use message::{Reply, Request};
 pub use reading::read_request;
 pub use reply_fault::ReplyFault;

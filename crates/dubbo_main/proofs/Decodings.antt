@@ -7,9 +7,10 @@ use Rattle.hessian_reader.specs.Refusing.{IsRefusedBy}
 use Rattle.hessian_reader.specs.declared.fault.HessianFault.{HessianFault}
 use Rattle.hessian_reader.specs.declared.fault.HessianFault.TheVariants.{OutOfMemory}
 use Rattle.graph_notation.specs.Notation.{PrintsForm}
+use Rattle.dubbo_bodies.specs.FaultTexts.{hessian_words}
 use Rattle.dubbo_main.specs.Decoding.{DecodeAnswers, IsDecoded, DenotesNone}
 use Rattle.dubbo_main.specs.Decoding.DecodeAnswers.{decoded, damaged}
-use Rattle.dubbo_main.specs.FaultTexts.{damage_line, hessian_text}
+use Rattle.dubbo_main.specs.FaultTexts.{damage_line}
 use Rattle.dubbo_main.specs.PlainCommands.{status_of, text_of}
 use Rattle.dubbo_main.specs.declared.commands.answer.Answer.{Answer}
 
@@ -32,7 +33,7 @@ answers_notation roots input g (Err e) denoted many zero printed = tt
 -- the answer with the fault of the bytes
 pub answers_fault : {E : Type 0} (roots : ℕ) (input : List ℕ) (fault : HessianFault) (answer : Result Answer E)
     → (fault ≢ OutOfMemory → (g : Shape) → IsDenoted input g → length g.roots ≡ roots → ⊥) → (fault ≢ OutOfMemory → IsRefusedBy roots input fault)
-    → IfOk answer (λ a. fault ≢ OutOfMemory) → IfOk answer (λ a. status_of a ≡ 8) → IfOk answer (λ a. text_of a ≡ damage_line (hessian_text fault))
+    → IfOk answer (λ a. fault ≢ OutOfMemory) → IfOk answer (λ a. status_of a ≡ 8) → IfOk answer (λ a. text_of a ≡ damage_line (hessian_words fault))
     → IfOk answer (λ a. DecodeAnswers roots input (status_of a) (text_of a))
 answers_fault roots input fault (Ok a) none why cause eight line =
     subst (λ status. DecodeAnswers roots input status (text_of a)) (sym eight)

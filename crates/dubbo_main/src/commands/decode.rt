@@ -2,8 +2,9 @@
 ghost use Rattle.std.specs.Prelude.{◌≡◌, ◌≢◌, ◌++◌, ◌∷◌, [], List, ℕ, IfOk};
 ghost use Rattle.hessian_graph.specs.Shape.{shape_of};
 ghost use Rattle.graph_notation.specs.Notation.{PrintsForm};
+ghost use Rattle.dubbo_bodies.specs.FaultTexts.{hessian_words};
 ghost use Rattle.dubbo_main.specs.Decoding.{DecodeAnswers};
-ghost use Rattle.dubbo_main.specs.FaultTexts.{damage_line, hessian_text};
+ghost use Rattle.dubbo_main.specs.FaultTexts.{damage_line};
 ghost use Rattle.dubbo_main.specs.PlainCommands.{status_of, text_of};
 
 use super::Answer;
@@ -38,7 +39,7 @@ fn printed(alloc: Global, graph: &Graph) -> Result<Answer, AllocError>
 fn refused(alloc: Global, fault: HessianFault) -> Result<Answer, AllocError>
     ensures cause { IfOk result (λ answer. fault ≢ HessianFault.OutOfMemory) }
     ensures status { IfOk result (λ answer. status_of answer ≡ 8) }
-    ensures line { IfOk result (λ answer. text_of answer ≡ damage_line (hessian_text fault)) }
+    ensures line { IfOk result (λ answer. text_of answer ≡ damage_line (hessian_words fault)) }
 {
     match hessian_damage(fault) {
         Some(line) => Ok(Answer::Damaged(line.as_bytes().to_vec(alloc)?)),
