@@ -11,6 +11,7 @@ pub mod OneBody
 pub mod Bodies
 pub mod ReadBack
 pub mod ReplyBack
+pub mod OneHessian
 pub mod Canonical
 pub mod StatusTexts
 pub mod OneKind

@@ -1,8 +1,11 @@
 //! Laws of bodies, as functions whose clauses are the laws. They do nothing when they are called.
 
-ghost use Rattle.std.specs.Prelude.{◌≡◌, ◌<◌, ℕ, List, length};
-ghost use Rattle.hessian_graph.specs.Shape.{shape_of};
+ghost use Rattle.std.specs.Prelude.{◌≡◌, ◌<◌, ◌≤◌, ℕ, List, length};
+ghost use Rattle.hessian_graph.specs.Canon.{IsCanon};
+ghost use Rattle.hessian_graph.specs.Forms.{Written};
+ghost use Rattle.hessian_graph.specs.Shape.{Shape, shape_of};
 ghost use Rattle.hessian_graph.specs.Work.{IsClosed};
+ghost use Rattle.hessian_reader.specs.Leaves.{IsDenoted, node_limit, hessian as read_spellings};
 ghost use Rattle.hessian_writer.specs.Leaves.{hessian, hessian_forms};
 ghost use Rattle.dubbo_header.specs.declared.header.Header.{Header};
 ghost use Rattle.dubbo_bodies.specs.declared.message.Reply.{Reply as AReply};
@@ -27,6 +30,12 @@ pub fn has_one_reply_body()
     ensures { (reply : AReply) → (a b : List ℕ) → WrittenReply hessian hessian_forms reply a → WrittenReply hessian hessian_forms reply b → a ≡ b }
 {}
 
+/// What is written of a graph is read as its canonical form, where that has no more nodes than a reader takes.
+pub fn written_graph_is_read()
+    ensures { (graph form : Shape) → (bytes : List ℕ) → Written hessian hessian_forms graph bytes → IsCanon graph form
+        → length form.nodes ≤ node_limit → IsDenoted bytes form × (length form.roots ≡ length graph.roots) }
+{}
+
 /// A written request is read as it was, with the canonical form of its arguments.
 ///
 /// The bound on nodes counts the map of the attachments too.
@@ -34,7 +43,7 @@ pub fn request_is_read_as_written(request: &Request, canonical: &Request)
     ensures { (bound : ℕ) → (header : Header) → (body : List ℕ) → header.serial ≡ HESSIAN
         → HasArgs request.now.desc (length request.now.args.roots)
         → WrittenRequest hessian hessian_forms request.now body → IsCanonRequest request.now canonical.now
-        → length canonical.now.args.nodes < bound → RequestOf hessian bound header body canonical.now }
+        → length canonical.now.args.nodes < bound → RequestOf read_spellings bound header body canonical.now }
 {
     look_at(&request.args);
     look_at(&canonical.args);
@@ -45,7 +54,7 @@ pub fn reply_is_read_as_written(reply: &Reply, canonical: &Reply)
     ensures { (bound : ℕ) → (header : Header) → (body : List ℕ) → header.serial ≡ HESSIAN
         → GoesWith reply.now header.status
         → WrittenReply hessian hessian_forms reply.now body → IsCanonReply reply.now canonical.now
-        → HasFewNodes canonical.now bound → ReplyOf hessian bound header body canonical.now }
+        → HasFewNodes canonical.now bound → ReplyOf read_spellings bound header body canonical.now }
 {
     look_at_reply(reply);
     look_at_reply(canonical);
