@@ -1,30 +1,24 @@
 #!/usr/bin/env python3
 """Measures read_graph and write_graph alone: tools/bench_library.py PROGRAM FOLDER
 
-PROGRAM is the built codec_rounds, FOLDER has graphs as NAME.hs2. A row is the CPU time that twelve rounds take more than two,
-a tenth of it, least of five; MB/s counts the bytes of the graph's Hessian form, as the yardsticks do for their rows `in process`.
+PROGRAM is the built codec_rounds, FOLDER has graphs as NAME.hs2. A row is the CPU time of the least of thirty rounds in one process,
+its memory given back, as the yardsticks measure their rows `in process`; MB/s counts the bytes of the graph's Hessian form.
 """
 import os
+import subprocess
 import sys
 
 GRAPHS = ("ints", "objects", "deep", "text", "textmix", "binary")
-FEW, MANY, TRIES = 2, 12, 5
-
-
-def cpu_seconds(program, action, rounds, source):
-    """The CPU seconds of one process."""
-    files = [(os.POSIX_SPAWN_OPEN, 0, source, os.O_RDONLY, 0), (os.POSIX_SPAWN_OPEN, 1, os.devnull, os.O_WRONLY, 0)]
-    pid = os.posix_spawn(program, [program, action, str(rounds)], os.environ, file_actions=files)
-    _, status, use = os.wait4(pid, 0)
-    if status:
-        sys.exit(f"bench_library: {action} of {source} ended with status {os.waitstatus_to_exitcode(status)}")
-    return use.ru_utime + use.ru_stime
+ROUNDS = 30
 
 
 def round_seconds(program, action, source):
-    """The CPU seconds of one round."""
-    few, many = (min(cpu_seconds(program, action, rounds, source) for _ in range(TRIES)) for rounds in (FEW, MANY))
-    return max(many - few, 1e-6) / (MANY - FEW)
+    """The CPU seconds of the least round."""
+    with open(source, "rb") as graph:
+        done = subprocess.run([program, action, str(ROUNDS), "least"], stdin=graph, capture_output=True, text=True, check=False)
+    if done.returncode:
+        sys.exit(f"bench_library: {action} of {source} ended with status {done.returncode}")
+    return max(int(done.stdout), 1) / 1e9
 
 
 def main(words):

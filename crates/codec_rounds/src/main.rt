@@ -1,19 +1,22 @@
-//! Reads or writes one graph in rounds, so that the library alone can be measured: the time that more rounds take is no start of a process,
-//! no input and no notation.
+//! Reads or writes one graph in rounds, so that the library alone can be measured: no start of a process, no input and no notation.
 //!
-//! `codec_rounds read|write ROUNDS < BYTES` takes the Hessian 2 bytes of one value. It prints how many nodes the last reading gave or how many
-//! bytes the last writing. Status 1: other words, or an input that fails or is no graph; 4: the output failed.
+//! `codec_rounds read|write ROUNDS [least] < BYTES` takes the Hessian 2 bytes of one value. It prints how many nodes the last reading gave or how
+//! many bytes the last writing; with `least`, how many nanoseconds of processor time the least round took, its memory given back. Status 1: other
+//! words, an input that fails or is no graph, or a clock that fails; 4: the output failed.
 #![tactic(auto)]
 
+mod least;
 mod rounds;
 mod words;
 
+use crate::least::{least_reading, least_writing};
 use crate::rounds::{read_rounds, write_rounds};
-use crate::words::{Rounds, given, rounds_of};
+use crate::words::{Action, Rounds, Show, given, rounds_of};
 use dubbo_io::{Sink, StdSink, StdSource, read_all, write_all};
 use itoa::Buffer;
 use std::alloc::Global;
 use std::process::ExitCode;
+use std::time::{CpuClock, Duration};
 
 #[cfg(test)]
 mod tests;
@@ -22,26 +25,50 @@ mod tests;
 const INPUT_LIMIT: usize = 16_777_216;
 
 /// How many nodes or bytes the last round gave.
-fn outcome(alloc: Global, rounds: Rounds, bytes: &[u8]) -> Option<usize> {
-    match rounds {
-        Rounds::Read(count) => {
-            let graph = read_rounds(alloc, bytes, count).ok()?;
+fn size(alloc: Global, rounds: Rounds, bytes: &[u8]) -> Option<usize> {
+    match rounds.action {
+        Action::Read => {
+            let graph = read_rounds(alloc, bytes, rounds.count).ok()?;
             Some(graph.parts().nodes.as_slice().len())
         }
-        Rounds::Write(count) => {
+        Action::Write => {
             let graph = read_rounds(alloc, bytes, 1).ok()?;
-            let written = write_rounds(alloc, &graph, count)?;
+            let written = write_rounds(alloc, &graph, rounds.count).ok()?;
             Some(written.len())
         }
     }
 }
 
+/// The time of the least round.
+fn shortest<C: CpuClock>(
+    clock: &C,
+    alloc: Global,
+    rounds: Rounds,
+    bytes: &[u8],
+) -> Option<Duration> {
+    match rounds.action {
+        Action::Read => least_reading(clock, alloc, bytes, rounds.count).ok(),
+        Action::Write => {
+            let graph = read_rounds(alloc, bytes, 1).ok()?;
+            least_writing(clock, alloc, &graph, rounds.count).ok()
+        }
+    }
+}
+
+/// The number that is printed.
+fn outcome<C: CpuClock>(clock: &C, alloc: Global, rounds: Rounds, bytes: &[u8]) -> Option<u64> {
+    match rounds.show {
+        Show::Size => Some(size(alloc, rounds, bytes)? as u64),
+        Show::Least => u64::try_from(shortest(clock, alloc, rounds, bytes)?.as_nanos()).ok(),
+    }
+}
+
 /// Writes a number and a line end, and answers the status.
-fn print<O: Sink>(output: &mut O, number: usize) -> u8
+fn print<O: Sink>(output: &mut O, number: u64) -> u8
     requires { (O.state output.old).open_to_all }
 {
     let mut buffer = Buffer::new();
-    let digits = buffer.format(number as u64).as_bytes();
+    let digits = buffer.format(number).as_bytes();
     if write_all(output, digits).is_err() || write_all(output, b"\n").is_err() {
         return 4;
     }
@@ -58,7 +85,7 @@ fn main(rt: HostRuntime) -> ExitCode {
     let Ok(bytes) = read_all(alloc, &mut input, INPUT_LIMIT) else {
         return ExitCode::from(1);
     };
-    let Some(number) = outcome(alloc, rounds, bytes.as_slice()) else {
+    let Some(number) = outcome(&rt, alloc, rounds, bytes.as_slice()) else {
         return ExitCode::from(1);
     };
     ExitCode::from(print(&mut output, number))
