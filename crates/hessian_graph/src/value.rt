@@ -1,8 +1,9 @@
 //! Values, and lists of values and of pairs.
 
-ghost use Rattle.std.specs.Prelude.{◌≡◌};
+ghost use Rattle.std.specs.Prelude.{◌≡◌, ◌++◌, ◌∷◌, [], length, nat_eq, is_ok, if◌then◌else◌};
 
 use crate::text::{Chars, Octets};
+use std::alloc::AllocError;
 use std::marker::Model;
 
 /// A value of a graph.
@@ -63,6 +64,35 @@ impl Items {
         ensures { result.now ≡ self.now }
     {
         self.inner.as_slice()
+    }
+
+    /// Whether there are no values.
+    #[inline(always)]
+    pub fn is_empty(&self) -> bool
+        ensures { result ≡ nat_eq (length self.now) 0 }
+    {
+        self.inner.is_empty()
+    }
+
+    /// Takes room for so many values more, and for no others.
+    #[inline(always)]
+    pub fn reserve_exact(&mut self, more: usize) -> Result<(), AllocError>
+        ensures { self.new ≡ self.old }
+    {
+        self.inner.reserve_exact(more)
+    }
+
+    /// Adds a value behind the others. Where there is no memory the values stay as they were.
+    #[inline(always)]
+    pub fn push(&mut self, value: Value) -> Result<(), AllocError>
+        ensures { self.new ≡ (if is_ok result then self.old ++ value ∷ [] else self.old) }
+    {
+        if self.inner.len() < self.inner.capacity() {
+            self.inner.push_reserved(value);
+        } else {
+            self.inner.push(value)?;
+        }
+        Ok(())
     }
 
     /// The vector that was handed in.
