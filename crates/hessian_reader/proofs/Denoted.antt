@@ -16,9 +16,9 @@ use Rattle.hessian_graph.specs.Spells.Spells.{open_typed_list as t_open_typed_li
 use Rattle.hessian_graph.specs.Spells.SpellsAll.{none as ts_none, one as ts_one}
 use Rattle.hessian_graph.specs.Work.{NamesBelow, IsClosed}
 use Rattle.hessian_graph.proofs.Rebuilding.{sound_of}
-use Rattle.hessian_reader.specs.declared.store.Begun.{Begun}
-use Rattle.hessian_reader.specs.declared.store.Sort.{Sort}
-use Rattle.hessian_reader.specs.declared.store.Sort.TheVariants as sorts
+use Rattle.hessian_reader.specs.Nodes.{Begun}
+use Rattle.hessian_reader.specs.declared.table.Sort.{Sort}
+use Rattle.hessian_reader.specs.declared.table.Sort.TheVariants as sorts
 use Rattle.hessian_reader.specs.Finish.{IsNodeOf, IsWhole, MapsAreWhole, MakesSound}
 use Rattle.hessian_reader.specs.Leaves.{IsDenoted}
 use Rattle.hessian_reader.specs.Names.{Names}

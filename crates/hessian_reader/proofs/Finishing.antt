@@ -11,9 +11,9 @@ use Rattle.hessian_graph.specs.Shape.{Text, MapKind, NodeShape, type_of, alterna
 use Rattle.hessian_graph.specs.Spells.{ArePairs}
 use Rattle.hessian_graph.specs.declared.parts.Parts.{Parts}
 use Rattle.hessian_graph.proofs.Alternately.{length_alternately}
-use Rattle.hessian_reader.specs.declared.store.Sort.{Sort}
-use Rattle.hessian_reader.specs.declared.store.Sort.TheVariants as sorts
-use Rattle.hessian_reader.specs.declared.store.Begun.{Begun}
+use Rattle.hessian_reader.specs.declared.table.Sort.{Sort}
+use Rattle.hessian_reader.specs.declared.table.Sort.TheVariants as sorts
+use Rattle.hessian_reader.specs.Nodes.{Begun}
 use Rattle.hessian_reader.specs.Names.{Names}
 use Rattle.hessian_reader.specs.States.{no_begun, sort_at, values_so_far, node_named, State, graph_of}
 use Rattle.hessian_reader.specs.Finish.{IsNodeOf, AreNodesOf, IsWhole, MapsAreWhole}

@@ -11,8 +11,8 @@ use Rattle.hessian_reader.specs.declared.element.Head.{Head}
 use Rattle.hessian_reader.specs.declared.element.Head.TheVariants as heads
 use Rattle.hessian_reader.specs.declared.element.Element.{Element}
 use Rattle.hessian_reader.specs.declared.element.Element.TheVariants as elements
-use Rattle.hessian_reader.specs.declared.store.Sort.{Sort}
-use Rattle.hessian_reader.specs.declared.store.Sort.TheVariants as sorts
+use Rattle.hessian_reader.specs.declared.table.Sort.{Sort}
+use Rattle.hessian_reader.specs.declared.table.Sort.TheVariants as sorts
 use Rattle.hessian_reader.specs.declared.store.Lacks.{Lacks}
 use Rattle.hessian_reader.specs.declared.store.OpenNode.{OpenNode}
 use Rattle.hessian_reader.specs.declared.stop.Objection.TheVariants.{NoNode, NoType, NoClass, NoLength}

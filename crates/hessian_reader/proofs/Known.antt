@@ -48,7 +48,7 @@ module _ (r : Course) (none : r.refused ≡ None) (known : ∥ Known r ∥₁) w
       let (roots, bytes, leads) = leads_of k in
       ap length (reading_makes_sound roots bytes (state_of r.work) leads e p made)))
 
-  pub known_few : length r.work.store.nodes.items < 2 ^ 32
+  pub known_few : length r.work.store.nodes < 2 ^ 32
   known_few =
-      let low : length r.work.store.nodes.items ≤ node_limit = ∥∥₁_elim known le_prop (λ k. let (roots, bytes, leads) = leads_of k in (sound_leads (sound_start roots) leads).limit) in
+      let low : length r.work.store.nodes ≤ node_limit = ∥∥₁_elim known le_prop (λ k. let (roots, bytes, leads) = leads_of k in (sound_leads (sound_start roots) leads).limit) in
       omega (arith, low)

@@ -6,7 +6,7 @@ use Rattle.std.proofs.lemmas.List.{append-nil, length-set, get_or-set_same, get_
 use Rattle.hessian_graph.specs.declared.value.Value.{Value}
 use Rattle.hessian_graph.specs.Shape.{Shape, values_at}
 use Rattle.hessian_graph.specs.Line.{Symbol, ValueOf, End, values_then}
-use Rattle.hessian_reader.specs.declared.store.Begun.{Begun}
+use Rattle.hessian_reader.specs.Nodes.{Begun}
 use Rattle.hessian_reader.specs.declared.store.Lacks.{Lacks}
 use Rattle.hessian_reader.specs.declared.store.OpenNode.{OpenNode}
 use Rattle.hessian_reader.specs.States.{Built, ToEnd, Count, Key, Mate, no_begun, values_so_far, sort_at, with_item, one_less, with_value}

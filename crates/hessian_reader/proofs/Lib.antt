@@ -6,6 +6,8 @@ pub mod Ahead
 pub mod Forward
 pub mod Outcomes
 pub mod Keeping
+pub mod Kept
+pub mod Closing
 pub mod Backward
 pub mod Ending
 pub mod Running

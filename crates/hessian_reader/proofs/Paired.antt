@@ -13,8 +13,8 @@ use Rattle.hessian_graph.specs.Line.TypedCode.{open_list as c_open_list, long_li
 use Rattle.hessian_graph.specs.Line.Row.{scalar as r_scalar, text as r_text, binary as r_binary, end as r_end, refer as r_refer, reference as r_reference, define as r_define, class_name as r_class_name, field_count as r_field_count, field_name as r_field_name, open_list as r_open_list, long_list as r_long_list, short_list as r_short_list, list_length as r_list_length, typed as r_typed, type_name as r_type_name, type_number as r_type_number, open_map as r_open_map, long_object as r_long_object, class_number as r_class_number, short_object as r_short_object}
 use Rattle.hessian_graph.specs.Line.Line.{done, next}
 use Rattle.hessian_graph.proofs.ToLine.{line_of}
-use Rattle.hessian_reader.specs.declared.store.Sort.{Sort}
-use Rattle.hessian_reader.specs.declared.store.Sort.TheVariants as sorts
+use Rattle.hessian_reader.specs.declared.table.Sort.{Sort}
+use Rattle.hessian_reader.specs.declared.table.Sort.TheVariants as sorts
 use Rattle.hessian_reader.specs.Leaves.{IsDenoted}
 use Rattle.hessian_reader.specs.Names.{Names}
 use Rattle.hessian_reader.specs.Finish.{IsWhole, MapsAreWhole}

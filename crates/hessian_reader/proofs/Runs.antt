@@ -1,9 +1,9 @@
--- Elements that are taken one after another, and leaves that go to the innermost open node.
+-- Elements that are taken one after another, and leaves and references that go to the innermost open node.
 use Rattle.std.proofs.Common.{◌≡◌, ℕ, ◌+◌, ◌-◌, ◌<◌, ◌≤◌, false, List, [], ◌∷◌, ◌++◌, length, take, drop, get_or, set, refl, ap, sym, ◌∙◌, subst, append_assoc, append-nil, arith, inl, inr, length-append}
-use Rattle.std.specs.Prelude.{slice_index, if◌then◌else◌, Some, None, Result, Ok, Err, IfOk, ℤ, pos}
+use Rattle.std.specs.Prelude.{slice_index, if◌then◌else◌, Option, Some, None, Result, Ok, Err, IfOk, IfSome, ℤ, pos}
 use Rattle.std.proofs.Math.Seq.{take-add}
 use Rattle.std.proofs.lemmas.Bool.{cases_lt, lt-ltb, le-ltb, lt-leb, le-leb}
-use Rattle.std.proofs.lemmas.List.{length-drop, set-set, set-get_or, get_or-set_same, set_past}
+use Rattle.std.proofs.lemmas.List.{length-drop, length-set, set-set, set-get_or, get_or-set_same, set_past}
 use Rattle.hessian_graph.specs.declared.value.Value.{Value}
 use Rattle.hessian_text.proofs.Advancing.{rest_is}
 use Rattle.hessian_graph.specs.declared.value.Value.TheVariants.{Node}
@@ -11,19 +11,19 @@ use Rattle.hessian_reader.specs.declared.element.Element.{Element}
 use Rattle.hessian_reader.specs.declared.element.Element.TheVariants.{Plain, Code, Number}
 use Rattle.hessian_reader.specs.declared.element.Head.{Head}
 use Rattle.hessian_reader.specs.declared.element.Head.TheVariants as heads
-use Rattle.hessian_reader.specs.declared.store.Sort.{Sort}
-use Rattle.hessian_reader.specs.declared.store.Sort.TheVariants as sorts
+use Rattle.hessian_reader.specs.declared.table.Sort.{Sort}
+use Rattle.hessian_reader.specs.declared.table.Sort.TheVariants as sorts
 use Rattle.hessian_reader.specs.declared.stop.Objection.TheVariants.{NoNode}
 use Rattle.hessian_reader.specs.declared.element.Want.TheVariants as wants
-use Rattle.hessian_reader.specs.declared.store.Begun.{Begun}
+use Rattle.hessian_reader.specs.Nodes.{Begun}
 use Rattle.hessian_reader.specs.declared.store.OpenNode.{OpenNode}
 use Rattle.hessian_reader.specs.declared.store.Lacks.{Lacks}
 use Rattle.hessian_reader.specs.Codes.{head_of}
 use Rattle.hessian_reader.specs.Elements.{IsElement}
 use Rattle.hessian_reader.specs.Leaves.{node_limit}
 use Rattle.hessian_reader.specs.Views.{fields_of}
-use Rattle.hessian_reader.specs.Runs.{AreLeaves, AddsLeaves, with_items, after_leaves, Gives}
-use Rattle.hessian_reader.specs.Runs.AreLeaves.{none, last}
+use Rattle.hessian_reader.specs.Runs.{AreValues, AddsValues, with_items, after_values, Gives}
+use Rattle.hessian_reader.specs.Runs.AreValues.{none, leaf, reference}
 use Rattle.hessian_reader.specs.States.{Built, State, Place, AtValue, AtReference, Count, begins_node, begins_object, field_count, moves_to, no_begun, sort_at, values_so_far, with_item, one_less, with_value, takes_value, want_at, lacks_none, is_done}
 use Rattle.hessian_reader.specs.Steps.{Leads, Outcome, at_value, if_room, natural_of, below_by, reference_step, class_step, node_step, take_element, head_step}
 use Rattle.hessian_reader.specs.Steps.Leads.{here, on}
@@ -72,24 +72,24 @@ item_more nodes n vs v = elim (cases_lt n (length nodes)) [
 
 -- what the innermost node lacks
 
-less_is : (n left count : ℕ) (others : List OpenNode) → count < left → one_less (Count (left - count)) n others ≡ after_leaves n left (count + 1) others
+less_is : (n left count : ℕ) (others : List OpenNode) → count < left → one_less (Count (left - count)) n others ≡ after_values n left (count + 1) others
 less_is n left count others low = elim (cases_lt (count + 1) left) [
   | inl h ↦ rw (lt-leb (left - count) 1 (omega arith), lt-leb left (count + 1) h) (ap (λ k. record { node = n; lacks = Count k } ∷ others) (omega arith))
   | inr h ↦ rw (le-leb (left - count) 1 (omega arith), le-leb left (count + 1) h) refl
 ]
 
-still_open : (n left count : ℕ) (others : List OpenNode) → count < left → after_leaves n left count others ≡ record { node = n; lacks = Count (left - count) } ∷ others
+still_open : (n left count : ℕ) (others : List OpenNode) → count < left → after_values n left count others ≡ record { node = n; lacks = Count (left - count) } ∷ others
 still_open n left count others low = rw (lt-leb left count low) refl
 
--- the state to which leaves lead
+-- the state to which values lead
 gave : State → ℕ → ℕ → List OpenNode → List Value → State
-gave s n left others vs = record s { built = record (s.built) { nodes = with_items s.built.nodes n vs; open_nodes = after_leaves n left (length vs) others }; place = AtValue }
+gave s n left others vs = record s { built = record (s.built) { nodes = with_items s.built.nodes n vs; open_nodes = after_values n left (length vs) others }; place = AtValue }
 
 gave_none : (s : State) (n left : ℕ) (others : List OpenNode) → s.place ≡ AtValue → s.built.open_nodes ≡ record { node = n; lacks = Count left } ∷ others → 0 < left → gave s n left others [] ≡ s
 unfolding gave
 gave_none s n left others p e some =
-    let first : after_leaves n left 0 others ≡ s.built.open_nodes = still_open n left 0 others some ∙ ap (λ k. record { node = n; lacks = Count k } ∷ others) (omega arith) ∙ sym e in
-    ap (λ ns. record s { built = record (s.built) { nodes = ns; open_nodes = after_leaves n left 0 others }; place = AtValue }) (items_none s.built.nodes n)
+    let first : after_values n left 0 others ≡ s.built.open_nodes = still_open n left 0 others some ∙ ap (λ k. record { node = n; lacks = Count k } ∷ others) (omega arith) ∙ sym e in
+    ap (λ ns. record s { built = record (s.built) { nodes = ns; open_nodes = after_values n left 0 others }; place = AtValue }) (items_none s.built.nodes n)
     ∙ ap (λ os. record s { built = record (s.built) { open_nodes = os }; place = AtValue }) first
     ∙ ap (λ q. record s { place = q }) (sym p)
 
@@ -97,11 +97,11 @@ gave_more : (s : State) (n left : ℕ) (others : List OpenNode) (vs : List Value
 unfolding gave
 gave_more s n left others vs v low =
     let b : Built = (gave s n left others vs).built in
-    let first : after_leaves n left (length vs) others ≡ record { node = n; lacks = Count (left - length vs) } ∷ others = still_open n left (length vs) others low in
+    let first : after_values n left (length vs) others ≡ record { node = n; lacks = Count (left - length vs) } ∷ others = still_open n left (length vs) others low in
     let count : length vs + 1 ≡ length (vs ++ v ∷ []) = sym (length-append vs (v ∷ [])) in
     ap (λ os. record s { built = with_value os v b; place = AtValue }) first
     ∙ ap (λ ns. record s { built = record b { nodes = ns; open_nodes = one_less (Count (left - length vs)) n others }; place = AtValue }) (item_more s.built.nodes n vs v)
-    ∙ ap (λ os. record s { built = record b { nodes = with_items s.built.nodes n (vs ++ v ∷ []); open_nodes = os }; place = AtValue }) (less_is n left (length vs) others low ∙ ap (λ k. after_leaves n left k others) count)
+    ∙ ap (λ os. record s { built = record b { nodes = with_items s.built.nodes n (vs ++ v ∷ []); open_nodes = os }; place = AtValue }) (less_is n left (length vs) others low ∙ ap (λ k. after_values n left k others) count)
 
 gave_going : (s : State) (n left : ℕ) (others : List OpenNode) (vs : List Value) → length vs < left → is_done (gave s n left others vs) ≡ false
 unfolding gave
@@ -115,17 +115,42 @@ gave_wants : (s : State) (n left : ℕ) (others : List OpenNode) (vs : List Valu
 unfolding gave
 gave_wants s n left others vs = refl
 
-leaves_lead : (s : State) (n left : ℕ) (others : List OpenNode) {vs : List Value} {bytes : List ℕ} → s.place ≡ AtValue → s.built.open_nodes ≡ record { node = n; lacks = Count left } ∷ others → length vs ≤ left → 0 < left → AreLeaves vs bytes → Leads s bytes (gave s n left others vs)
-leaves_lead s n left others p e few some none = subst (Leads s []) (sym (gave_none s n left others p e some)) here
-leaves_lead s n left others p e few some (last vs more v front element bytes leaves is joined spelled) =
+-- as many nodes have begun
+gave_nodes : (s : State) (n left : ℕ) (others : List OpenNode) (vs : List Value) → length (gave s n left others vs).built.nodes ≡ length s.built.nodes
+unfolding gave
+gave_nodes s n left others vs = length-set s.built.nodes n _
+
+gave_refers : (s : State) (n left : ℕ) (others : List OpenNode) (vs : List Value) → take_element (gave s n left others vs) (Code heads.Refer) ≡ Ok (moves_to AtReference (gave s n left others vs))
+unfolding gave
+gave_refers s n left others vs = refl
+
+-- the code of a reference and its number
+refer_more : {s t : State} {front : List ℕ} (code number : List ℕ) (k : ℕ) → Leads s front t → is_done t ≡ false → want_at t.place ≡ wants.AnyValue → take_element t (Code heads.Refer) ≡ Ok (moves_to AtReference t) → IsElement wants.AnyValue code (Code heads.Refer) → IsElement wants.AnInt number (Number (pos k)) → k < length t.built.nodes → Leads s (front ++ (code ++ number)) (takes_value (Node k) t)
+refer_more {s = s} {t = t} {front = front} code number k leads d wants_any takes is_code is_number low =
+    let is' = subst (λ w. IsElement w code (Code heads.Refer)) (sym wants_any) is_code in
+    let first : Leads s (front ++ code) (moves_to AtReference t) = leads_more (Code heads.Refer) code leads d is' takes in
+    let step : reference_step (pos k) (moves_to AtReference t) ≡ Ok (takes_value (Node k) t) = rw (lt-ltb k (length t.built.nodes) low) refl in
+    subst (λ b. Leads s b (takes_value (Node k) t)) (append_assoc front code number) (leads_more (Number (pos k)) number first refl is_number step)
+
+values_lead : (s : State) (n left : ℕ) (others : List OpenNode) {vs : List Value} {bytes : List ℕ} → s.place ≡ AtValue → s.built.open_nodes ≡ record { node = n; lacks = Count left } ∷ others → length vs ≤ left → 0 < left → AreValues (length s.built.nodes) vs bytes → Leads s bytes (gave s n left others vs)
+values_lead s n left others p e few some none = subst (Leads s []) (sym (gave_none s n left others p e some)) here
+values_lead s n left others p e few some (leaf vs more v front element bytes values is joined spelled) =
     let count : length more ≡ length vs + 1 = ap length joined ∙ length-append vs (v ∷ []) in
     let low : length vs < left = omega (arith, count, few) in
-    let leads : Leads s front (gave s n left others vs) = leaves_lead s n left others p e (omega (arith, low)) some leaves in
+    let leads : Leads s front (gave s n left others vs) = values_lead s n left others p e (omega (arith, low)) some values in
     let is' = subst (λ w. IsElement w element (Plain v)) (sym (gave_wants s n left others vs)) is in
     let one = leads_more (Plain v) element leads (gave_going s n left others vs low) is' (gave_takes s n left others vs v ∙ ap Ok (gave_more s n left others vs v low)) in
     subst (λ ws. Leads s bytes (gave s n left others ws)) (sym joined) (subst (λ b. Leads s b (gave s n left others (vs ++ v ∷ []))) (sym spelled) one)
+values_lead s n left others p e few some (reference vs more k front code number bytes values is_code is_number begun joined spelled) =
+    let count : length more ≡ length vs + 1 = ap length joined ∙ length-append vs (Node k ∷ []) in
+    let low : length vs < left = omega (arith, count, few) in
+    let leads : Leads s front (gave s n left others vs) = values_lead s n left others p e (omega (arith, low)) some values in
+    let begun' = subst (λ m. k < m) (sym (gave_nodes s n left others vs)) begun in
+    let two = refer_more code number k leads (gave_going s n left others vs low) (gave_wants s n left others vs) (gave_refers s n left others vs) is_code is_number begun' in
+    let one = subst (Leads s (front ++ (code ++ number))) (gave_more s n left others vs (Node k) low) two in
+    subst (λ ws. Leads s bytes (gave s n left others ws)) (sym joined) (subst (λ b. Leads s b (gave s n left others (vs ++ Node k ∷ []))) (sym spelled) one)
 
--- what the leaves of a piece lead to
+-- what the values of a piece lead to
 pub gives_lead : (s t : State) (bytes : List ℕ) → s.place ≡ AtValue → t.place ≡ AtValue → t.names ≡ s.names → Gives s.built bytes t.built → Leads s bytes t
 unfolding gave
 gives_lead s t bytes p q names (inl (same, e)) =
@@ -133,26 +158,37 @@ gives_lead s t bytes p q names (inl (same, e)) =
     rw (e, is) here
 gives_lead s t bytes p q names (inr g) =
     let is : t ≡ gave s g.node g.left g.others g.added = ap (λ b. record t { built = b }) g.is ∙ ap (λ k. record (gave s g.node g.left g.others g.added) { names = k; place = t.place }) names ∙ ap (λ k. record (gave s g.node g.left g.others g.added) { place = k }) q in
-    subst (Leads s bytes) (sym is) (leaves_lead s g.node g.left g.others p g.innermost g.few g.some g.leaves)
+    subst (Leads s bytes) (sym is) (values_lead s g.node g.left g.others p g.innermost g.few g.some g.values)
 
--- one leaf more
-pub leaf_more : (old vs : List Value) (piece : List ℕ) (most leaves bytes used : ℕ) (v : Value) → AddsLeaves old piece most vs (record { leaves = leaves; bytes = bytes }) → leaves < most → used ≤ length (drop bytes piece) → IsElement wants.AnyValue (take used (drop bytes piece)) (Plain v) → AddsLeaves old piece most (vs ++ v ∷ []) (record { leaves = leaves + 1; bytes = bytes + used })
-leaf_more old vs piece most leaves bytes used v adds low within is =
-    let count = adds.count in
+-- one value more
+pub one_leaf : (nodes : ℕ) (v : Value) (bytes : List ℕ) → IsElement wants.AnyValue bytes (Plain v) → AreValues nodes (v ∷ []) bytes
+one_leaf nodes v bytes is = leaf [] (v ∷ []) v [] bytes bytes none is refl refl
+
+pub one_reference : (nodes n used : ℕ) (piece : List ℕ) → 0 < length piece → head_of (slice_index piece 0) ≡ Some heads.Refer → IsElement wants.AnInt (take used (drop 1 piece)) (Number (pos n)) → n < nodes → AreValues nodes (Node n ∷ []) (take (1 + used) piece)
+one_reference nodes n used piece some code is low = reference [] (Node n ∷ []) n [] (take 1 piece) (take used (drop 1 piece)) (take (1 + used) piece) none (code_lexed wants.AnyValue heads.Refer (slice_index piece 0) piece refl some refl code) is low refl (take-add 1 used piece)
+
+values_join : {nodes : ℕ} {vs ws : List Value} {a b : List ℕ} → AreValues nodes vs a → AreValues nodes ws b → AreValues nodes (vs ++ ws) (a ++ b)
+values_join {nodes = nodes} {vs = vs} {a = a} values none = subst (λ l. AreValues nodes l (a ++ [])) (sym (append-nil vs)) (subst (AreValues nodes vs) (sym (append-nil a)) values)
+values_join {vs = us} {a = a} values (leaf vs more v front element bytes others is joined spelled) = leaf (us ++ vs) (us ++ more) v (a ++ front) element (a ++ bytes) (values_join values others) is (ap (λ l. us ++ l) joined ∙ sym (append_assoc us vs (v ∷ []))) (ap (λ l. a ++ l) spelled ∙ sym (append_assoc a front element))
+values_join {vs = us} {a = a} values (reference vs more n front code number bytes others is_code is_number low joined spelled) = reference (us ++ vs) (us ++ more) n (a ++ front) code number (a ++ bytes) (values_join values others) is_code is_number low (ap (λ l. us ++ l) joined ∙ sym (append_assoc us vs (Node n ∷ []))) (ap (λ l. a ++ l) spelled ∙ sym (append_assoc a front (code ++ number)))
+
+pub value_more : (nodes : ℕ) (old vs : List Value) (piece : List ℕ) (most count bytes used : ℕ) (v : Value) → AddsValues nodes old piece most vs (record { values = count; bytes = bytes }) → count < most → used ≤ length (drop bytes piece) → AreValues nodes (v ∷ []) (take used (drop bytes piece)) → AddsValues nodes old piece most (vs ++ v ∷ []) (record { values = count + 1; bytes = bytes + used })
+value_more nodes old vs piece most count bytes used v adds low within one =
+    let counted = adds.count in
     let begun = adds.within in
     let far = length-drop bytes piece in
     let more = length-append adds.added (v ∷ []) in
     record {
       added = adds.added ++ v ∷ [];
-      leaves = last adds.added (adds.added ++ v ∷ []) v (take bytes piece) (take used (drop bytes piece)) (take (bytes + used) piece) adds.leaves is refl (take-add bytes used piece);
+      values = subst (AreValues nodes (adds.added ++ v ∷ [])) (sym (take-add bytes used piece)) (values_join adds.values one);
       is = ap (λ ws. ws ++ v ∷ []) adds.is ∙ append_assoc old adds.added (v ∷ []);
-      count = omega (arith, count, more);
+      count = omega (arith, counted, more);
       few = omega arith;
       within = omega (arith, begun, within, far);
     }
 
-pub no_leaf : (vs : List Value) (piece : List ℕ) (most : ℕ) → AddsLeaves vs piece most vs (record { leaves = 0; bytes = 0 })
-no_leaf vs piece most = record { added = []; leaves = none; is = sym (append-nil vs); count = refl; few = omega arith; within = omega arith }
+pub no_value : (nodes : ℕ) (vs : List Value) (piece : List ℕ) (most : ℕ) → AddsValues nodes vs piece most vs (record { values = 0; bytes = 0 })
+no_value nodes vs piece most = record { added = []; values = none; is = sym (append-nil vs); count = refl; few = omega arith; within = omega arith }
 
 -- codes
 

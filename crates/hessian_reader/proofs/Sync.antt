@@ -9,7 +9,7 @@ use Rattle.hessian_graph.specs.Loose.Leads.{here as l_here, on as l_on}
 use Rattle.hessian_graph.specs.Refusal.{Cause, RefusedInt, IsBelow, IsNegative}
 use Rattle.hessian_graph.specs.Refusal.RefusedInt.{bad_length, bad_count, bad_reference, bad_type, bad_class}
 use Rattle.hessian_reader.specs.declared.element.Element.TheVariants as elements
-use Rattle.hessian_reader.specs.declared.store.Sort.TheVariants as sorts
+use Rattle.hessian_reader.specs.declared.table.Sort.TheVariants as sorts
 use Rattle.hessian_reader.specs.declared.stop.Objection.TheVariants.{NoNode, NoType, NoClass, NoLength}
 use Rattle.hessian_reader.specs.Leaves.{hessian}
 use Rattle.hessian_reader.specs.States.{State, Place, AtValue, AtDefined, AtReference, AtType, AtLength, AtClass, AtName, AtCount, AtField as FieldPlace, Count, begins_node, takes_value, begins_object, awaits_fields, want_at}

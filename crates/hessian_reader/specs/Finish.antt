@@ -7,9 +7,9 @@ use Rattle.hessian_graph.specs.declared.parts.Parts.{Parts}
 use Rattle.hessian_graph.specs.Faults.{IsSound}
 use Rattle.hessian_graph.specs.Shape.{no_vertex, alternately}
 use Rattle.hessian_graph.specs.Spells.{ArePairs}
-use Rattle.hessian_reader.specs.declared.store.Sort.{Sort}
-use Rattle.hessian_reader.specs.declared.store.Sort.TheVariants as sorts
-use Rattle.hessian_reader.specs.declared.store.Begun.{Begun}
+use Rattle.hessian_reader.specs.declared.table.Sort.{Sort}
+use Rattle.hessian_reader.specs.declared.table.Sort.TheVariants as sorts
+use Rattle.hessian_reader.specs.Nodes.{Begun}
 use Rattle.hessian_reader.specs.States.{State, sort_at, values_so_far}
 
 -- the node is of this sort and has these values; a map's, where they are whole pairs
@@ -17,6 +17,12 @@ abbrev pub IsNodeOf : Sort → List Value → Node → Type 0
 IsNodeOf (sorts.List k) vs node = node ≡ nodes.List k vs
 IsNodeOf (sorts.Map k) vs node = ArePairs vs → (pairs : _) × (node ≡ nodes.Map k pairs) × (alternately pairs ≡ vs)
 IsNodeOf (sorts.Object k) vs node = node ≡ nodes.Object k vs
+
+-- a list that stands for a map has its pairs, and other nodes are as they were
+abbrev pub ClosesNode : Node → Node → Type 0
+ClosesNode (nodes.List k items) new = IsNodeOf (sorts.Map k) items new
+ClosesNode (nodes.Map k pairs) new = new ≡ nodes.Map k pairs
+ClosesNode (nodes.Object k values) new = new ≡ nodes.Object k values
 
 pub record AreNodesOf (begun : List Begun) (ns : List Node) : Type 0 where
   pub as_many : length ns ≡ length begun

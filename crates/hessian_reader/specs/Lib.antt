@@ -2,6 +2,7 @@ pub mod Leaves
 pub mod Elements
 pub mod Codes
 pub mod Names
+pub mod Nodes
 pub mod States
 pub mod Steps
 pub mod Views

@@ -4,9 +4,9 @@ use Rattle.hessian_graph.specs.declared.value.Value.{Value}
 use Rattle.hessian_graph.specs.declared.value.Value.TheVariants.{Node}
 use Rattle.hessian_graph.specs.declared.node.Class.{Class}
 use Rattle.hessian_graph.specs.Shape.{Text, Kind, ListKind, MapKind, ObjectKind, NodeShape, Shape, type_of, no_class}
-use Rattle.hessian_reader.specs.declared.store.Sort.{Sort}
-use Rattle.hessian_reader.specs.declared.store.Sort.TheVariants as sorts
-use Rattle.hessian_reader.specs.declared.store.Begun.{Begun}
+use Rattle.hessian_reader.specs.declared.table.Sort.{Sort}
+use Rattle.hessian_reader.specs.declared.table.Sort.TheVariants as sorts
+use Rattle.hessian_reader.specs.Nodes.{Begun}
 use Rattle.hessian_reader.specs.declared.store.Lacks.{Lacks}
 pub use Rattle.hessian_reader.specs.declared.store.Lacks.TheVariants.{ToEnd, Count, Key, Mate}
 use Rattle.hessian_reader.specs.declared.store.OpenNode.{OpenNode}

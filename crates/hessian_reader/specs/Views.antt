@@ -12,7 +12,7 @@ use Rattle.hessian_reader.specs.Steps.{Outcome}
 
 -- the innermost open node is the last of the vector
 abbrev pub built_of : Store → Built
-built_of s = record { roots = s.roots.items; wanted = s.wanted; nodes = s.nodes.items; open_nodes = reverse s.open_nodes.items }
+built_of s = record { roots = s.roots.items; wanted = s.wanted; nodes = s.nodes; open_nodes = reverse s.open_nodes.items }
 
 abbrev pub state_of : Work → State
 state_of w = record { built = built_of w.store; names = w.names; place = w.place }

@@ -1,13 +1,13 @@
 //! Vectors that grow.
 
-ghost use Rattle.std.specs.Prelude.{◌≡◌, ◌++◌, ◌∷◌, [], OnOk};
+ghost use Rattle.std.specs.Prelude.{◌≡◌, ◌++◌, ◌∷◌, [], is_ok, if◌then◌else◌};
 
 use std::alloc::AllocError;
 
 /// Adds a value, with no more than a test where there is room.
 #[inline(always)]
 pub fn push<T: Drop>(values: &mut Vec<T>, value: T) -> Result<(), AllocError>
-    ensures { OnOk result (values.new.items ≡ values.old.items ++ value ∷ []) }
+    ensures { values.new.items ≡ (if is_ok result then values.old.items ++ value ∷ [] else values.old.items) }
 {
     if values.len() < values.capacity() {
         values.push_reserved(value);

@@ -14,12 +14,14 @@ mod law;
 mod leaves;
 mod lexer;
 mod names;
+mod pairs;
 mod place;
 mod reader;
 mod reading;
 mod run;
 mod stop;
 mod store;
+mod table;
 mod work;
 
 pub use fault::HessianFault;

@@ -1,41 +1,20 @@
 //! Elements that lie whole in a piece, taken one after another with no bytes of them kept.
 
-ghost use Rattle.std.specs.Prelude.{◌≡◌, ◌≤◌, ◌<◌, length, slice_index, take, false, pos, Some, IfOk, IfSome, OnOk};
+ghost use Rattle.std.specs.Prelude.{◌≡◌, ◌≤◌, ◌<◌, length, slice_index, take, false, Some, IfOk, IfSome, OnOk};
 ghost use Rattle.hessian_reader.specs.Codes.{head_of};
-ghost use Rattle.hessian_reader.specs.Elements.{IsElement};
 ghost use Rattle.hessian_reader.specs.States.{State, begins_node, is_done};
 ghost use Rattle.hessian_reader.specs.Steps.{Leads, head_step, node_step};
 ghost use Rattle.hessian_reader.specs.Views.{state_of};
 
-use crate::element::{Element, Head, Want};
-use crate::leaves::leaf_at_once;
+use crate::element::Head;
+use crate::leaves::{leaf_at_once, number_at_once};
 use crate::lexer::head_of;
 use crate::place::Place;
-use crate::store::{Lacks, Sort};
-use crate::work::{NODE_LIMIT, Work, natural};
+use crate::store::Lacks;
+use crate::table::Sort;
+use crate::work::{NODE_LIMIT, Work};
 use hessian_graph::Value;
-use hessian_scalars::{Scalar, scalar_at_once};
 use std::alloc::AllocError;
-
-/// The number that a scalar is, where it is an int that isn't negative.
-fn number_of(scalar: Scalar) -> Option<u32>
-    ensures { IfSome result (λ number. scalar ≡ Scalar.Int (pos number)) }
-{
-    match scalar {
-        Scalar::Int(number) => natural(number),
-        _ => None,
-    }
-}
-
-/// The number that lies whole at the front of a piece, and behind how many bytes it ends.
-fn number_at_once(piece: &[u8]) -> Option<(u32, usize)>
-    ensures within { IfSome result (λ p. p.1 ≤ length piece.now) }
-    ensures is { IfSome result (λ p. IsElement Want.AnInt (take p.1 piece.now) (Element.Number (pos p.0))) }
-{
-    let (scalar, used) = scalar_at_once(piece)?;
-    let number = number_of(scalar)?;
-    Some((number, used))
-}
 
 /// What a node lacks and is, where it begins with its code.
 fn begun_by(head: Head) -> Option<(Lacks, Sort)>
@@ -82,15 +61,15 @@ impl Work {
             return Ok(0);
         }
         match head_of(code) {
-            None => self.leaves_at_once(piece),
+            None => self.values_at_once(piece),
             Some(Head::Refer) => self.refer_at_once(piece),
             Some(Head::ShortObject(number)) => self.object_at_once(number, piece),
             Some(head) => self.node_at_once(head, piece),
         }
     }
 
-    /// Takes leaves.
-    fn leaves_at_once(&mut self, piece: &[u8]) -> Result<usize, AllocError>
+    /// Takes a leaf, and the leaves and references behind it where the innermost open node lacks a known number of values.
+    fn values_at_once(&mut self, piece: &[u8]) -> Result<usize, AllocError>
         requires here { self.old.place ≡ Place.AtValue }
         requires lacking { is_done (state_of self.old) ≡ false }
         ensures within { IfOk result (λ used. used ≤ length piece.now) }
@@ -98,20 +77,20 @@ impl Work {
         ensures leads { IfOk result (λ used. Leads (state_of self.old) (take used piece.now) (state_of self.new)) }
     {
         if self.store.lacks_known() {
-            self.known_leaves(piece)
+            self.known_values(piece)
         } else {
             self.leaf_at_once(piece)
         }
     }
 
-    /// Takes leaves of a node that lacks so many.
-    fn known_leaves(&mut self, piece: &[u8]) -> Result<usize, AllocError>
+    /// Takes leaves and references of a node that lacks a known number of values.
+    fn known_values(&mut self, piece: &[u8]) -> Result<usize, AllocError>
         requires here { self.old.place ≡ Place.AtValue }
         ensures within { IfOk result (λ used. used ≤ length piece.now) }
         ensures place { IfOk result (λ used. self.new.place ≡ Place.AtValue) }
         ensures leads { IfOk result (λ used. Leads (state_of self.old) (take used piece.now) (state_of self.new)) }
     {
-        self.store.take_leaves(piece)
+        self.store.take_values(piece)
     }
 
     /// Takes a leaf.

@@ -2,97 +2,16 @@
 
 ghost use Rattle.std.specs.Prelude.{◌≡◌, ◌++◌, ◌∷◌, ◌<◌, ◌≤◌, ◌^◌, [], length, take, OnOk, IfOk, IsTrue};
 ghost use Rattle.hessian_graph.specs.declared.value.Value.TheVariants.{Node};
-ghost use Rattle.hessian_reader.specs.Runs.{AddsLeaves, Gives, PutsLeaves};
+ghost use Rattle.hessian_reader.specs.Runs.{AddsValues, Gives, PutsValues};
 ghost use Rattle.hessian_reader.specs.States.{less_lacking, lacks_none, with_begun, with_item, with_node, with_value};
 ghost use Rattle.hessian_reader.specs.Views.{built_of, Builds};
 
 use crate::grow::push;
-use crate::leaves::{Taken, push_leaves};
+use crate::leaves::Taken;
 use crate::stop::Stop;
-use hessian_graph::{Items, Value};
+use crate::table::{Sort, Table};
+use hessian_graph::Value;
 use std::alloc::{AllocError, Global};
-use std::marker::Model;
-
-/// The most values for which the first one of a node takes room.
-const FIRST_ROOM: usize = 8;
-
-/// The values of a node, as far as they came. A map's keys and values come alternately.
-#[derive(Drop)]
-pub struct Growing {
-    inner: Vec<Value>,
-}
-
-impl Model for Growing {
-    ghost use Rattle.std.specs.Prelude.{List};
-    ghost use Rattle.hessian_graph.specs.declared.value.Value.{Value as Item};
-
-    ghost Value = { List Item };
-
-    ghost view = { λ a. a.inner.items };
-}
-
-impl Growing {
-    /// No values.
-    pub fn new(alloc: Global) -> Growing
-        ensures { result ≡ [] }
-    {
-        Growing {
-            inner: Vec::new(alloc),
-        }
-    }
-
-    /// Adds a value. The first takes room for so many, but for no more than eight.
-    pub fn push(&mut self, value: Value, room: usize) -> Result<(), AllocError>
-        ensures { OnOk result (self.new ≡ self.old ++ value ∷ []) }
-    {
-        if self.inner.is_empty() {
-            self.inner.reserve_exact(room.min(FIRST_ROOM))?;
-        }
-        push(&mut self.inner, value)
-    }
-
-    /// Adds the leaves that lie whole at the front of a piece, but no more than so many.
-    pub fn push_leaves(
-        &mut self,
-        alloc: Global,
-        piece: &[u8],
-        most: usize,
-    ) -> Result<Taken, AllocError>
-        ensures { IfOk result (AddsLeaves self.old piece.now most self.new) }
-    {
-        if self.inner.is_empty() {
-            self.inner.reserve_exact(most.min(FIRST_ROOM))?;
-        }
-        push_leaves(alloc, &mut self.inner, piece, most)
-    }
-
-    /// The values as items.
-    pub fn into_items(self) -> Items
-        ensures { result ≡ self }
-    {
-        Items::from(self.inner)
-    }
-}
-
-/// What a node is, with the number of its type or class.
-#[derive(Clone, Copy)]
-pub enum Sort {
-    /// A list, with its type where it has one.
-    List(Option<u32>),
-    /// A map, with its type where it has one.
-    Map(Option<u32>),
-    /// An object of this class.
-    Object(u32),
-}
-
-/// A node that has begun.
-#[derive(Drop)]
-pub struct Begun {
-    /// What it is.
-    pub sort: Sort,
-    /// Its values so far.
-    pub values: Growing,
-}
 
 /// What an open node lacks.
 #[derive(Clone, Copy)]
@@ -126,7 +45,7 @@ pub struct Store {
     /// How many roots are to come.
     pub wanted: u32,
     /// The nodes that have begun, by their numbers.
-    pub nodes: Vec<Begun>,
+    pub nodes: Table,
     /// The nodes that lack values, the innermost last.
     pub open_nodes: Vec<OpenNode>,
 }
@@ -179,20 +98,16 @@ impl Store {
             alloc,
             roots: Vec::new(alloc),
             wanted,
-            nodes: Vec::new(alloc),
+            nodes: Table::new(alloc),
             open_nodes: Vec::new(alloc),
         }
     }
 
     /// Adds a value to the node of this number, which still lacks so many where that is known.
     fn put(&mut self, node: u32, value: Value, room: usize) -> Result<(), AllocError>
-        ensures { OnOk result (built_of self.new ≡ record (built_of self.old) { nodes = with_item self.old.nodes.items node value }) }
+        ensures { OnOk result (built_of self.new ≡ record (built_of self.old) { nodes = with_item self.old.nodes node value }) }
     {
-        let place = node as usize;
-        if place < self.nodes.len() {
-            self.nodes[place].values.push(value, room)?;
-        }
-        Ok(())
+        self.nodes.push(node, value, room)
     }
 
     /// Gives a value to the innermost open node, or to the roots.
@@ -214,21 +129,12 @@ impl Store {
         Ok(())
     }
 
-    /// Adds the leaves that lie whole at the front of a piece to the node of this number, but no more than so many.
-    fn put_leaves(&mut self, node: u32, piece: &[u8], most: usize) -> Result<Taken, AllocError>
-        ensures puts { IfOk result (PutsLeaves (built_of self.old) node piece.now most (built_of self.new)) }
+    /// Adds the leaves and references that lie whole at the front of a piece to the node of this number, but no more than so
+    /// many.
+    fn put_values(&mut self, node: u32, piece: &[u8], most: usize) -> Result<Taken, AllocError>
+        ensures puts { IfOk result (PutsValues (built_of self.old) node piece.now most (built_of self.new)) }
     {
-        let place = node as usize;
-        if place < self.nodes.len() {
-            self.nodes[place]
-                .values
-                .push_leaves(self.alloc, piece, most)
-        } else {
-            Ok(Taken {
-                leaves: 0,
-                bytes: 0,
-            })
-        }
+        self.nodes.push_values(self.alloc, node, piece, most)
     }
 
     /// Whether the innermost open node lacks a number of values that is known.
@@ -239,9 +145,9 @@ impl Store {
         }
     }
 
-    /// Takes the leaves that lie whole at the front of a piece, as long as the innermost open node lacks them, and answers
-    /// how many bytes they are.
-    pub fn take_leaves(&mut self, piece: &[u8]) -> Result<usize, AllocError>
+    /// Takes the leaves and references that lie whole at the front of a piece, as long as the innermost open node lacks them,
+    /// and answers how many bytes they are.
+    pub fn take_values(&mut self, piece: &[u8]) -> Result<usize, AllocError>
         ensures within { IfOk result (λ used. used ≤ length piece.now) }
         ensures gives { IfOk result (λ used. Gives (built_of self.old) (take used piece.now) (built_of self.new)) }
     {
@@ -251,9 +157,9 @@ impl Store {
         let node = innermost.node;
         match innermost.lacks {
             Lacks::Count(left) if left > 0 => {
-                let taken = self.put_leaves(node, piece, left)?;
-                if taken.leaves < left {
-                    let lacks = Lacks::Count(left - taken.leaves);
+                let taken = self.put_values(node, piece, left)?;
+                if taken.values < left {
+                    let lacks = Lacks::Count(left - taken.values);
                     push(&mut self.open_nodes, OpenNode { node, lacks })?;
                 }
                 Ok(taken.bytes)
@@ -267,10 +173,10 @@ impl Store {
 
     /// Begins the node of this number.
     fn begin_at(&mut self, lacks: Lacks, sort: Sort, node: u32) -> Result<(), AllocError>
+        requires { node ≡ length self.old.nodes }
         ensures { OnOk result (built_of self.new ≡ with_begun lacks sort node (built_of self.old)) }
     {
-        let values = Growing::new(self.alloc);
-        push(&mut self.nodes, Begun { sort, values })?;
+        self.nodes.begin(self.alloc, node, sort)?;
         match lacks {
             Lacks::Count(0) => {}
             _ => push(&mut self.open_nodes, OpenNode { node, lacks })?,

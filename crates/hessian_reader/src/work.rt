@@ -12,7 +12,8 @@ use crate::element::{Element, Form, Head, Want};
 use crate::names::NameTables;
 use crate::place::{ClassSoFar, Place};
 use crate::stop::{Objection, Stop};
-use crate::store::{Lacks, OpenNode, Sort, Store};
+use crate::store::{Lacks, OpenNode, Store};
+use crate::table::Sort;
 use hessian_graph::{Chars, Value};
 use std::alloc::{AllocError, Global};
 use std::mem;
@@ -52,7 +53,7 @@ impl Work {
 
     /// Refuses one node too many.
     fn room(&self) -> Result<(), Stop>
-        ensures { HasRoom result (length self.now.store.nodes.items) }
+        ensures { HasRoom result (length self.now.store.nodes) }
     {
         if self.store.nodes.len() >= NODE_LIMIT {
             return Err(Stop::Objects(Objection::TooMany));

@@ -7,7 +7,7 @@ use Rattle.hessian_reader.proofs.finish.graph_of.Goals as goal
 pub from_sound-requires-clause-sound : goal.from_sound-requires-clause-sound
 from_sound-requires-clause-sound c = c.requires.sound _ (record {
   roots = c.from.ensures;
-  nodes = subst (AreNodesOf c.args.work.store.nodes.items) (sym c.from-2.ensures) c.in_ok-nodes.ensures;
+  nodes = subst (AreNodesOf c.args.work.store.nodes) (sym c.from-2.ensures) c.in_ok-nodes.ensures;
   types = c.into_tables-types.ensures.types;
   classes = c.into_tables-types.ensures.classes;
 })

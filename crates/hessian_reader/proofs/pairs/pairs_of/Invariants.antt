@@ -1,7 +1,7 @@
 use Rattle.std.proofs.Common.{◌≡◌, ◌++◌}
 use Rattle.std.specs.Vec.Iter.{into_iter_items, into_iter_len}
 use Rattle.hessian_graph.specs.Shape.{alternately}
-use Rattle.hessian_reader.proofs.finish.pairs_of.Given as goal
+use Rattle.hessian_reader.proofs.pairs.pairs_of.Given as goal
 
 -- the pairs so far, and what is left, are all values
 abbrev pub invariant-loop-key : goal.invariant-loop-key

@@ -2,7 +2,7 @@ use Rattle.std.proofs.Common.{sym, ◌≡◌, ap, ◌∙◌, ◌++◌, length}
 use Rattle.std.specs.Vec.Iter.{into_iter_items}
 use Rattle.hessian_graph.specs.Shape.{alternately}
 use Rattle.hessian_reader.proofs.Finishing.{pair_more, no_key_alone}
-use Rattle.hessian_reader.proofs.finish.pairs_of.Goals as goal
+use Rattle.hessian_reader.proofs.pairs.pairs_of.Goals as goal
 
 pub returns-in_default-next : goal.returns-in_default-next
 returns-in_default-next c = λ pairs.

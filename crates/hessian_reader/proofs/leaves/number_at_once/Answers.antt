@@ -4,7 +4,7 @@ use Rattle.hessian_scalars.specs.ScalarSpelling.{ScalarSpelling}
 use Rattle.hessian_reader.specs.declared.element.Want.TheVariants.{AnInt}
 use Rattle.hessian_reader.specs.Elements.IsElement.{number}
 use Rattle.hessian_reader.specs.Elements.TakesInt.{int}
-use Rattle.hessian_reader.proofs.run.number_at_once.Goals as goal
+use Rattle.hessian_reader.proofs.leaves.number_at_once.Goals as goal
 
 pub returns-clause-is : goal.returns-clause-is
 returns-clause-is c =
