@@ -1,8 +1,6 @@
 -- The nodes of a graph, made of those that have begun.
-use Rattle.std.proofs.Common.{◌≡◌, ℕ, suc, ◌+◌, ◌<◌, List, [], ◌∷◌, ◌++◌, length, get_or, arith, refl, sym, ap, ◌∙◌, subst, append_assoc, length-append, inl, inr}
+use Rattle.std.proofs.Common.{◌≡◌, ℕ, suc, ◌+◌, ◌<◌, List, [], ◌∷◌, ◌++◌, length, get_or, arith, refl, sym, ap, ◌∙◌, append_assoc, length-append}
 use Rattle.std.specs.Prelude.{map}
-use Rattle.std.proofs.lemmas.Bool.{cases_lt}
-use Rattle.std.proofs.lemmas.List.{get_or_append_left, get_or_push}
 use Rattle.hessian_graph.specs.declared.value.Value.{Value}
 use Rattle.hessian_graph.specs.declared.value.Pair.{Pair}
 use Rattle.hessian_graph.specs.declared.node.Node.{Node}
@@ -15,7 +13,7 @@ use Rattle.hessian_reader.specs.declared.table.Sort.{Sort}
 use Rattle.hessian_reader.specs.declared.table.Sort.TheVariants as sorts
 use Rattle.hessian_reader.specs.Nodes.{Begun}
 use Rattle.hessian_reader.specs.Names.{Names}
-use Rattle.hessian_reader.specs.States.{no_begun, sort_at, values_so_far, node_named, State, graph_of}
+use Rattle.hessian_reader.specs.States.{sort_at, values_so_far, node_named, State, graph_of}
 use Rattle.hessian_reader.specs.Finish.{IsNodeOf, AreNodesOf, IsWhole, MapsAreWhole}
 
 -- one pair more is a key and a value more
@@ -38,27 +36,6 @@ no_key_alone ps k first second all whole e none (n, even) =
     let b : length first ≡ 1 + length second = ap length e ∙ omega arith in
     let c = length_alternately ps in
     omega (arith, a, b, c, none, even)
-
--- what is made stays so under another name
-made : (b c : Begun) (n m : Node) → b ≡ c → n ≡ m → IsNodeOf b.sort b.values n → IsNodeOf c.sort c.values m
-made b c n m e f h = subst (λ (x : Node). IsNodeOf c.sort c.values x) f (subst (λ (x : Begun). IsNodeOf x.sort x.values n) e h)
-
--- one node more is made
-pub node_more : (bs : List Begun) (ns : List Node) (b : Begun) (n : Node) → AreNodesOf bs ns → IsNodeOf b.sort b.values n → AreNodesOf (bs ++ b ∷ []) (ns ++ n ∷ [])
-node_more bs ns b n all one = record {
-  as_many = let e = all.as_many in omega (arith, length-append ns (n ∷ []), length-append bs (b ∷ []), e);
-  each = λ i h. elim (cases_lt i (length bs)) [
-    | inl before ↦
-        let there : i < length ns = let e = all.as_many in omega (arith, e, before) in
-        made (get_or bs i no_begun) (get_or (bs ++ b ∷ []) i no_begun) (get_or ns i no_vertex) (get_or (ns ++ n ∷ []) i no_vertex)
-        (sym (get_or_append_left bs (b ∷ []) no_begun i before)) (sym (get_or_append_left ns (n ∷ []) no_vertex i there)) (all.each i before)
-    | inr past ↦
-        let last : length bs ≡ i = omega (arith, h, past, length-append bs (b ∷ [])) in
-        let same : length ns ≡ i = all.as_many ∙ last in
-        made b (get_or (bs ++ b ∷ []) i no_begun) n (get_or (ns ++ n ∷ []) i no_vertex)
-        (sym (get_or_push bs b no_begun i last)) (sym (get_or_push ns n no_vertex i same)) one
-  ];
-}
 
 -- the shape of a node is that of the one that had begun
 same_named : (types : List Text) (classes : List Class) (sort : Sort) (vs : List Value) (n : Node) → IsNodeOf sort vs n → IsWhole sort vs → node_shape types classes n ≡ node_named (record { types = types; classes = classes }) (record { sort = sort; values = vs })

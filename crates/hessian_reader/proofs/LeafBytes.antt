@@ -44,11 +44,11 @@ item_bytes : (kind : Kind) (value : List ℕ) (units : ℕ) (form : List ℕ) �
 item_bytes kinds.Text value units form i = shape_bytes value units form (to_shape value units form i)
 item_bytes kinds.Binary value units form i = subst AreBytes (sym i.form_is) (cons_bytes i.byte [] i.small no_bytes)
 
-contents_bytes : (kind : Kind) (value : List ℕ) (units : ℕ) (forms : List ℕ) → Contents kind value units forms → AreBytes forms
+pub contents_bytes : (kind : Kind) (value : List ℕ) (units : ℕ) (forms : List ℕ) → Contents kind value units forms → AreBytes forms
 contents_bytes kind value units forms none = no_bytes
 contents_bytes kind value units forms (item v form vs fs n more i c) = small_more form fs (item_bytes kind v n form i) (contents_bytes kind vs more fs c)
 
-head_bytes : (kind : Kind) (part : Part) (n : ℕ) (head : List ℕ) → ChunkHead kind part n head → AreBytes head
+pub head_bytes : (kind : Kind) (part : Part) (n : ℕ) (head : List ℕ) → ChunkHead kind part n head → AreBytes head
 head_bytes kind part n head (text_short c m i e) = cons_bytes c [] (omega (arith, i.high)) no_bytes
 head_bytes kind part n head (text_middle c b0 m i s e) = cons_bytes c (b0 ∷ []) (omega (arith, i.high)) (cons_bytes b0 [] s no_bytes)
 head_bytes kind part n head (text_inner b1 b0 m s1 s0 e) = cons_bytes 0x52 (b1 ∷ b0 ∷ []) (omega arith) (cons_bytes b1 (b0 ∷ []) s1 (cons_bytes b0 [] s0 no_bytes))
@@ -58,7 +58,7 @@ head_bytes kind part n head (binary_middle c b0 m i s e) = cons_bytes c (b0 ∷ 
 head_bytes kind part n head (binary_inner b1 b0 m s1 s0 e) = cons_bytes 0x41 (b1 ∷ b0 ∷ []) (omega arith) (cons_bytes b1 (b0 ∷ []) s1 (cons_bytes b0 [] s0 no_bytes))
 head_bytes kind part n head (binary_final b1 b0 m s1 s0 e) = cons_bytes 0x42 (b1 ∷ b0 ∷ []) (omega arith) (cons_bytes b1 (b0 ∷ []) s1 (cons_bytes b0 [] s0 no_bytes))
 
-spelling_bytes : (kind : Kind) (value bytes : List ℕ) → Spelling kind value bytes → AreBytes bytes
+pub spelling_bytes : (kind : Kind) (value bytes : List ℕ) → Spelling kind value bytes → AreBytes bytes
 spelling_bytes kind value bytes (last v head forms n h c) = small_more head forms (head_bytes kind _ n head h) (contents_bytes kind v n forms c)
 spelling_bytes kind value bytes (chunk v vs head forms rest n h c s) = small_more head (forms ++ rest) (head_bytes kind _ n head h) (small_more forms rest (contents_bytes kind v n forms c) (spelling_bytes kind vs rest s))
 

@@ -7,7 +7,7 @@ pub mod Forward
 pub mod Outcomes
 pub mod Keeping
 pub mod Kept
-pub mod Closing
+pub mod MapPairs
 pub mod Backward
 pub mod Ending
 pub mod Running
@@ -41,3 +41,9 @@ pub mod Whole
 pub mod Further
 pub mod Cut
 pub mod RefusalLaws
+pub mod AnyList
+pub mod InsideLeaf
+pub mod OneInside
+pub mod Reasons
+pub mod OneReason
+pub mod OneCause

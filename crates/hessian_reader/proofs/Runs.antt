@@ -1,6 +1,6 @@
 -- Elements that are taken one after another, and leaves and references that go to the innermost open node.
 use Rattle.std.proofs.Common.{◌≡◌, ℕ, ◌+◌, ◌-◌, ◌<◌, ◌≤◌, false, List, [], ◌∷◌, ◌++◌, length, take, drop, get_or, set, refl, ap, sym, ◌∙◌, subst, append_assoc, append-nil, arith, inl, inr, length-append}
-use Rattle.std.specs.Prelude.{slice_index, if◌then◌else◌, Option, Some, None, Result, Ok, Err, IfOk, IfSome, ℤ, pos}
+use Rattle.std.specs.Prelude.{slice_index, if◌then◌else◌, Some, None, Result, Ok, Err, IfOk, ℤ, pos}
 use Rattle.std.proofs.Math.Seq.{take-add}
 use Rattle.std.proofs.lemmas.Bool.{cases_lt, lt-ltb, le-ltb, lt-leb, le-leb}
 use Rattle.std.proofs.lemmas.List.{length-drop, length-set, set-set, set-get_or, get_or-set_same, set_past}
@@ -35,9 +35,6 @@ use Rattle.hessian_reader.proofs.OneWay.{leads_more}
 pub leads_join : {s t u : State} {a b : List ℕ} → Leads s a t → Leads t b u → Leads s (a ++ b) u
 leads_join here m = m
 leads_join {b = b} (on x el rest a d is took joined leads) m = on x el (rest ++ b) (a ++ b) d is took (ap (λ l. l ++ b) joined ∙ append_assoc el rest b) (leads_join leads m)
-
-pub leads_none : (s t : State) (n : ℕ) (bytes : List ℕ) → t ≡ s → n ≡ 0 → Leads s (take n bytes) t
-leads_none s t n bytes same e = rw (same, e) here
 
 -- elements of the rest of a piece, behind those of its front
 pub run_more : (s t u : State) (piece : List ℕ) (n used : ℕ) → Leads s (take n piece) t → Leads t (take used (take (length piece - n) (drop n piece))) u → Leads s (take (n + used) piece) u

@@ -18,12 +18,13 @@ IsNodeOf (sorts.List k) vs node = node ≡ nodes.List k vs
 IsNodeOf (sorts.Map k) vs node = ArePairs vs → (pairs : _) × (node ≡ nodes.Map k pairs) × (alternately pairs ≡ vs)
 IsNodeOf (sorts.Object k) vs node = node ≡ nodes.Object k vs
 
--- a list that stands for a map has its pairs, and other nodes are as they were
-abbrev pub ClosesNode : Node → Node → Type 0
-ClosesNode (nodes.List k items) new = IsNodeOf (sorts.Map k) items new
-ClosesNode (nodes.Map k pairs) new = new ≡ nodes.Map k pairs
-ClosesNode (nodes.Object k values) new = new ≡ nodes.Object k values
+-- a list that stands for a map has its pairs, where its items are whole pairs; a map and an object are as they were
+abbrev pub GetsPairs : Node → Node → Type 0
+GetsPairs (nodes.List k items) new = IsNodeOf (sorts.Map k) items new
+GetsPairs (nodes.Map k pairs) new = new ≡ nodes.Map k pairs
+GetsPairs (nodes.Object k values) new = new ≡ nodes.Object k values
 
+-- one node for each that had begun
 pub record AreNodesOf (begun : List Begun) (ns : List Node) : Type 0 where
   pub as_many : length ns ≡ length begun
   pub each : (i : ℕ) → i < length begun → IsNodeOf (sort_at begun i) (values_so_far begun i) (get_or ns i no_vertex)

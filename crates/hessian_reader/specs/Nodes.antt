@@ -1,5 +1,5 @@
 -- Nodes that have begun, and the table that has them in the form of a graph's nodes.
-use Rattle.std.specs.Prelude.{ℕ, suc, ◌<◌, List, [], ◌∷◌, ◌++◌, length, get_or, Bool, true, false, nat_eq, ◌||◌, if◌then◌else◌}
+use Rattle.std.specs.Prelude.{ℕ, suc, ◌<◌, List, [], ◌∷◌, ◌++◌, length, get_or, Bool, false, nat_eq, ◌||◌, if◌then◌else◌}
 use Rattle.hessian_graph.specs.declared.value.Value.{Value}
 use Rattle.hessian_graph.specs.declared.node.Node.{Node}
 use Rattle.hessian_graph.specs.declared.node.Node.TheVariants as nodes
@@ -17,7 +17,7 @@ abbrev pub is_among : ℕ → List ℕ → Bool
 is_among n [] = false
 is_among n (m ∷ ms) = nat_eq n m || is_among n ms
 
--- a list that stands for a map has its keys and values as items
+-- what a node of the table shows: a list that stands for a map has its keys and values as items
 abbrev pub begun_as : Bool → Node → Begun
 begun_as stands (nodes.List k items) = record { sort = if stands then sorts.Map k else sorts.List k; values = items }
 begun_as stands (nodes.Map k pairs) = record { sort = sorts.Map k; values = alternately pairs }
@@ -28,18 +28,18 @@ abbrev pub begun_from : List ℕ → ℕ → List Node → List Begun
 begun_from maps n [] = []
 begun_from maps n (v ∷ vs) = begun_as (is_among n maps) v ∷ begun_from maps (suc n) vs
 
--- no map has its pairs yet
-abbrev pub IsOpen : Node → Type 0
-IsOpen (nodes.List k items) = Unit {0}
-IsOpen (nodes.Map k pairs) = ⊥
-IsOpen (nodes.Object k values) = Unit {0}
+-- the node is no map: until its pairs are made, a map of the table is a list
+abbrev pub HasNoPairs : Node → Type 0
+HasNoPairs (nodes.List k items) = Unit {0}
+HasNoPairs (nodes.Map k pairs) = ⊥
+HasNoPairs (nodes.Object k values) = Unit {0}
 
--- the maps are nodes of the table, and none has its pairs yet
+-- the numbers of the maps are numbers of nodes, and no node has its pairs yet
 pub record IsKept (maps : List ℕ) (vs : List Node) : Type 0 where
   pub low : (i : ℕ) → i < length maps → get_or maps i 0 < length vs
-  pub opens : (i : ℕ) → i < length vs → IsOpen (get_or vs i no_vertex)
+  pub unpaired : (i : ℕ) → i < length vs → HasNoPairs (get_or vs i no_vertex)
 
--- the node has these values more
+-- a list or an object has these values more; a map, of which the table has none, stays as it is
 abbrev pub and_items : Node → List Value → Node
 and_items (nodes.List k items) vs = nodes.List k (items ++ vs)
 and_items (nodes.Map k pairs) vs = nodes.Map k pairs

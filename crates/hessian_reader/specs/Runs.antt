@@ -5,7 +5,7 @@ use Rattle.hessian_graph.specs.declared.value.Value.TheVariants.{Node}
 use Rattle.hessian_reader.specs.declared.element.Element.TheVariants as elements
 use Rattle.hessian_reader.specs.declared.element.Head.TheVariants as heads
 use Rattle.hessian_reader.specs.declared.element.Want.TheVariants as wants
-use Rattle.hessian_reader.specs.declared.leaves.Taken.{Taken}
+use Rattle.hessian_reader.specs.declared.values.Taken.{Taken}
 use Rattle.hessian_graph.specs.declared.node.Node.{Node as Vertex}
 use Rattle.hessian_reader.specs.Nodes.{Begun, and_items}
 use Rattle.hessian_reader.specs.declared.store.OpenNode.{OpenNode}
@@ -18,14 +18,22 @@ pub data AreValues (nodes : ℕ) : List Value → List ℕ → Type 0 where
   leaf : (vs more : List Value) (v : Value) (front element bytes : List ℕ) → AreValues nodes vs front → IsElement wants.AnyValue element (elements.Plain v) → more ≡ vs ++ v ∷ [] → bytes ≡ front ++ element → AreValues nodes more bytes
   reference : (vs more : List Value) (n : ℕ) (front code number bytes : List ℕ) → AreValues nodes vs front → IsElement wants.AnyValue code (elements.Code heads.Refer) → IsElement wants.AnInt number (elements.Number (pos n)) → n < nodes → more ≡ vs ++ Node n ∷ [] → bytes ≡ front ++ (code ++ number) → AreValues nodes more bytes
 
--- values at the front of a piece were added, and no more than so many
-pub record AddsValues (nodes : ℕ) (old : List Value) (piece : List ℕ) (most : ℕ) (new : List Value) (taken : Taken) : Type 0 where
+-- Values at the front of a piece were taken, no more than so many, and what grew has them more. There are so many nodes.
+pub record Grows (nodes : ℕ) (piece : List ℕ) (most : ℕ) (taken : Taken) (has_more : List Value → Type 0) : Type 0 where
   pub added : List Value
   pub values : AreValues nodes added (take taken.bytes piece)
-  pub is : new ≡ old ++ added
+  pub is : has_more added
   pub count : taken.values ≡ length added
   pub few : taken.values ≤ most
   pub within : taken.bytes ≤ length piece
+
+-- a list of values
+abbrev pub AddsValues : ℕ → List Value → List ℕ → ℕ → List Value → Taken → Type 0
+AddsValues nodes old piece most new taken = Grows nodes piece most taken (λ vs. new ≡ old ++ vs)
+
+-- a node of the table
+abbrev pub GrowsBy : ℕ → Vertex → List ℕ → ℕ → Vertex → Taken → Type 0
+GrowsBy nodes old piece most new taken = Grows nodes piece most taken (λ vs. new ≡ and_items old vs)
 
 -- the value at the front of a piece was added, and ends behind so many bytes
 pub record AddsOne (nodes : ℕ) (old : List Value) (piece : List ℕ) (new : List Value) (used : ℕ) : Type 0 where
@@ -39,36 +47,13 @@ abbrev pub AddsNext : ℕ → List Value → List ℕ → List Value → Option 
 AddsNext nodes old piece new (Some used) = AddsOne nodes old piece new used
 AddsNext nodes old piece new None = new ≡ old
 
--- values at the front of a piece were added to a node of the table, and no more than so many
-pub record GrowsBy (nodes : ℕ) (old : Vertex) (piece : List ℕ) (most : ℕ) (new : Vertex) (taken : Taken) : Type 0 where
-  pub added : List Value
-  pub values : AreValues nodes added (take taken.bytes piece)
-  pub is : new ≡ and_items old added
-  pub count : taken.values ≡ length added
-  pub few : taken.values ≤ most
-  pub within : taken.bytes ≤ length piece
-
 -- the node of this number has these values more
 abbrev pub with_items : List Begun → ℕ → List Value → List Begun
 with_items nodes n vs = set nodes n (record { sort = sort_at nodes n; values = values_so_far nodes n ++ vs })
 
--- values at the front of a piece were added to the node of this number, and no more than so many
-pub record PutsInto (old : List Begun) (n : ℕ) (piece : List ℕ) (most : ℕ) (new : List Begun) (taken : Taken) : Type 0 where
-  pub added : List Value
-  pub values : AreValues (length old) added (take taken.bytes piece)
-  pub is : new ≡ with_items old n added
-  pub count : taken.values ≡ length added
-  pub few : taken.values ≤ most
-  pub within : taken.bytes ≤ length piece
-
--- the same, with the roots and the open nodes as they were
-pub record PutsValues (old : Built) (n : ℕ) (piece : List ℕ) (most : ℕ) (new : Built) (taken : Taken) : Type 0 where
-  pub added : List Value
-  pub values : AreValues (length old.nodes) added (take taken.bytes piece)
-  pub is : new ≡ record old { nodes = with_items old.nodes n added }
-  pub count : taken.values ≡ length added
-  pub few : taken.values ≤ most
-  pub within : taken.bytes ≤ length piece
+-- the node of this number
+abbrev pub PutsInto : List Begun → ℕ → List ℕ → ℕ → List Begun → Taken → Type 0
+PutsInto old n piece most new taken = Grows (length old) piece most taken (λ vs. new ≡ with_items old n vs)
 
 -- an open node that lacked so many values has so many more
 abbrev pub after_values : ℕ → ℕ → ℕ → List OpenNode → List OpenNode

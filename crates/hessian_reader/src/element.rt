@@ -1,5 +1,8 @@
 //! The elements that bytes are made of.
 
+ghost use Rattle.std.specs.Prelude.{◌≡◌};
+ghost use Rattle.hessian_reader.specs.Steps.{natural_of};
+
 use hessian_graph::{Chars, Value};
 
 /// What stands behind the type of a node.
@@ -64,4 +67,11 @@ pub enum Want {
     AType,
     /// A text.
     AText,
+}
+
+/// A number that isn't negative.
+pub fn natural(number: i32) -> Option<u32>
+    ensures { result ≡ natural_of number }
+{
+    u32::try_from(number).ok()
 }

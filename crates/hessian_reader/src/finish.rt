@@ -1,6 +1,6 @@
 //! The graph of a reading that is done.
 
-ghost use Rattle.std.specs.Prelude.{◌≡◌, ◌<◌, ◌^◌, ℕ, length, IfOk, IfErr};
+ghost use Rattle.std.specs.Prelude.{◌≡◌, ◌<◌, ◌^◌, length, IfOk, IfErr};
 ghost use Rattle.hessian_graph.specs.Shape.{shape_of};
 ghost use Rattle.hessian_reader.specs.States.{graph_of as graph};
 ghost use Rattle.hessian_reader.specs.Views.{state_of};

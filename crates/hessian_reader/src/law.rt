@@ -29,3 +29,9 @@ pub fn fronts_of_a_graph_are_short()
     ensures { (front more : List ℕ) (g : Shape) → AreBytes (front ++ more) → more ≢ [] → IsDenoted (front ++ more) g
         → Refusal hessian faults node_limit (length g.roots) front (Short (length front)) }
 {}
+
+/// Bytes have at most one refusal.
+pub fn bytes_have_one_refusal()
+    ensures { (roots : ℕ) (bytes : List ℕ) (one other : Cause)
+        → Refusal hessian faults node_limit roots bytes one → Refusal hessian faults node_limit roots bytes other → one ≡ other }
+{}

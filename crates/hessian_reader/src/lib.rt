@@ -22,11 +22,13 @@ mod run;
 mod stop;
 mod store;
 mod table;
+mod values;
 mod work;
 
 pub use fault::HessianFault;
 pub use law::{
-    a_refusal_stays, bytes_denote_one_graph, fronts_of_a_graph_are_short, no_graph_is_refused,
+    a_refusal_stays, bytes_denote_one_graph, bytes_have_one_refusal, fronts_of_a_graph_are_short,
+    no_graph_is_refused,
 };
 pub use reader::{Fed, GraphReader};
 pub use reading::read_graph;

@@ -62,6 +62,7 @@ impl Work {
         }
         match head_of(code) {
             None => self.values_at_once(piece),
+            Some(Head::Refer) if self.store.lacks_known() => self.known_values(piece),
             Some(Head::Refer) => self.refer_at_once(piece),
             Some(Head::ShortObject(number)) => self.object_at_once(number, piece),
             Some(head) => self.node_at_once(head, piece),
@@ -129,7 +130,7 @@ impl Work {
         }
     }
 
-    /// Takes the code of an object.
+    /// Takes the code of an object, and its first values.
     fn object_at_once(&mut self, number: u8, piece: &[u8]) -> Result<usize, AllocError>
         requires here { self.old.place ≡ Place.AtValue }
         requires lacking { is_done (state_of self.old) ≡ false }
@@ -146,7 +147,8 @@ impl Work {
                     return Ok(0);
                 }
                 self.begin_here(Lacks::Count(count), Sort::Object(class))?;
-                Ok(1)
+                let more = self.known_values(&piece[1..])?;
+                Ok(1 + more)
             }
             None => Ok(0),
         }
@@ -175,6 +177,7 @@ impl Work {
     }
 
     /// Begins a node where a value may stand.
+    #[inline(always)]
     fn begin_here(&mut self, lacks: Lacks, sort: Sort) -> Result<(), AllocError>
         requires here { self.old.place ≡ Place.AtValue }
         ensures begun { OnOk result (state_of self.new ≡ begins_node lacks sort (state_of self.old)) }

@@ -1,15 +1,14 @@
 //! The values that came, and the nodes that are open.
 
-ghost use Rattle.std.specs.Prelude.{◌≡◌, ◌++◌, ◌∷◌, ◌<◌, ◌≤◌, ◌^◌, [], length, take, OnOk, IfOk, IsTrue};
+ghost use Rattle.std.specs.Prelude.{◌≡◌, ◌≤◌, [], length, take, OnOk, IfOk};
 ghost use Rattle.hessian_graph.specs.declared.value.Value.TheVariants.{Node};
-ghost use Rattle.hessian_reader.specs.Runs.{AddsValues, Gives, PutsValues};
-ghost use Rattle.hessian_reader.specs.States.{less_lacking, lacks_none, with_begun, with_item, with_node, with_value};
+ghost use Rattle.hessian_reader.specs.Runs.{Gives};
+ghost use Rattle.hessian_reader.specs.States.{less_lacking, lacks_none, with_begun, with_node, with_value};
 ghost use Rattle.hessian_reader.specs.Views.{built_of, Builds};
 
 use crate::grow::push;
-use crate::leaves::Taken;
 use crate::stop::Stop;
-use crate::table::{Sort, Table};
+use crate::table::{NodeTable, Sort};
 use hessian_graph::Value;
 use std::alloc::{AllocError, Global};
 
@@ -45,7 +44,7 @@ pub struct Store {
     /// How many roots are to come.
     pub wanted: u32,
     /// The nodes that have begun, by their numbers.
-    pub nodes: Table,
+    pub nodes: NodeTable,
     /// The nodes that lack values, the innermost last.
     pub open_nodes: Vec<OpenNode>,
 }
@@ -98,19 +97,13 @@ impl Store {
             alloc,
             roots: Vec::new(alloc),
             wanted,
-            nodes: Table::new(alloc),
+            nodes: NodeTable::new(alloc),
             open_nodes: Vec::new(alloc),
         }
     }
 
-    /// Adds a value to the node of this number, which still lacks so many where that is known.
-    fn put(&mut self, node: u32, value: Value, room: usize) -> Result<(), AllocError>
-        ensures { OnOk result (built_of self.new ≡ record (built_of self.old) { nodes = with_item self.old.nodes node value }) }
-    {
-        self.nodes.push(node, value, room)
-    }
-
     /// Gives a value to the innermost open node, or to the roots.
+    #[inline(always)]
     pub fn give(&mut self, value: Value) -> Result<(), AllocError>
         ensures { OnOk result (built_of self.new ≡ with_value (built_of self.old).open_nodes value (built_of self.old)) }
     {
@@ -120,21 +113,14 @@ impl Store {
                 self.wanted = self.wanted.saturating_sub(1);
             }
             Some(innermost) => {
-                self.put(innermost.node, value, known_count(innermost.lacks))?;
+                let room = known_count(innermost.lacks);
+                self.nodes.push(innermost.node, value, room)?;
                 if let Some(lacking) = after_value(innermost) {
                     push(&mut self.open_nodes, lacking)?;
                 }
             }
         }
         Ok(())
-    }
-
-    /// Adds the leaves and references that lie whole at the front of a piece to the node of this number, but no more than so
-    /// many.
-    fn put_values(&mut self, node: u32, piece: &[u8], most: usize) -> Result<Taken, AllocError>
-        ensures puts { IfOk result (PutsValues (built_of self.old) node piece.now most (built_of self.new)) }
-    {
-        self.nodes.push_values(self.alloc, node, piece, most)
     }
 
     /// Whether the innermost open node lacks a number of values that is known.
@@ -145,8 +131,8 @@ impl Store {
         }
     }
 
-    /// Takes the leaves and references that lie whole at the front of a piece, as long as the innermost open node lacks them,
-    /// and answers how many bytes they are.
+    /// Takes the leaves and references that lie whole at the front of a piece, where the innermost open node lacks a known
+    /// number of values, and no more of them than it lacks. It answers how many bytes they are.
     pub fn take_values(&mut self, piece: &[u8]) -> Result<usize, AllocError>
         ensures within { IfOk result (λ used. used ≤ length piece.now) }
         ensures gives { IfOk result (λ used. Gives (built_of self.old) (take used piece.now) (built_of self.new)) }
@@ -157,7 +143,7 @@ impl Store {
         let node = innermost.node;
         match innermost.lacks {
             Lacks::Count(left) if left > 0 => {
-                let taken = self.put_values(node, piece, left)?;
+                let taken = self.nodes.push_values(self.alloc, node, piece, left)?;
                 if taken.values < left {
                     let lacks = Lacks::Count(left - taken.values);
                     push(&mut self.open_nodes, OpenNode { node, lacks })?;
@@ -172,6 +158,7 @@ impl Store {
     }
 
     /// Begins the node of this number.
+    #[inline(always)]
     fn begin_at(&mut self, lacks: Lacks, sort: Sort, node: u32) -> Result<(), AllocError>
         requires { node ≡ length self.old.nodes }
         ensures { OnOk result (built_of self.new ≡ with_begun lacks sort node (built_of self.old)) }
@@ -185,6 +172,7 @@ impl Store {
     }
 
     /// Begins the next node, as a value of the node that it stands in.
+    #[inline(always)]
     pub fn begin(&mut self, lacks: Lacks, sort: Sort) -> Result<(), Stop>
         ensures { Builds result (built_of self.new) (with_node lacks sort (built_of self.old)) }
     {

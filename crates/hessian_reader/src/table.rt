@@ -1,21 +1,17 @@
 //! The nodes that have begun, in the form in which a graph has them.
 
 ghost use Rattle.std.specs.Prelude.{◌≡◌, ◌++◌, ◌∷◌, [], length, OnOk, IfOk};
-ghost use Rattle.hessian_reader.specs.Finish.{AreNodesOf, ClosesNode};
-ghost use Rattle.hessian_reader.specs.Nodes.{IsOpen, and_items};
+ghost use Rattle.hessian_reader.specs.Finish.{AreNodesOf};
+ghost use Rattle.hessian_reader.specs.Nodes.{HasNoPairs, and_items};
 ghost use Rattle.hessian_reader.specs.Runs.{AddsValues, GrowsBy, PutsInto};
 ghost use Rattle.hessian_reader.specs.States.{with_item};
 
 use crate::grow::push;
-use crate::leaves::{Taken, push_values};
-use crate::pairs::pairs_of;
-use hessian_graph::{Items, Node, Pairs, Value};
+use crate::pairs::make_pairs;
+use crate::values::{Taken, push_value, push_values};
+use hessian_graph::{Items, Node, Value};
 use std::alloc::{AllocError, Global};
 use std::marker::Model;
-use std::mem;
-
-/// The most values for which the first one of a node takes room.
-const FIRST_ROOM: usize = 8;
 
 /// What a node is, with the number of its type or class.
 #[derive(Clone, Copy)]
@@ -30,14 +26,14 @@ pub enum Sort {
 
 /// The nodes that have begun, by their numbers.
 #[derive(Drop)]
-pub struct Table {
+pub struct NodeTable {
     nodes: Vec<Node>,
     /// The numbers of the maps. Until the table ends, each is a list whose items are its keys and values, which come
     /// alternately.
     maps: Vec<u32>,
 }
 
-impl Model for Table {
+impl Model for NodeTable {
     ghost use Rattle.std.specs.Prelude.{List};
     ghost use Rattle.hessian_reader.specs.Nodes.{Begun, IsKept, begun_from};
 
@@ -48,43 +44,16 @@ impl Model for Table {
     ghost invariant = { λ t. IsKept t.maps.items t.nodes.items };
 }
 
-/// Adds a value to a list. The first takes room for so many, but for no more than eight.
-#[inline(always)]
-fn push_value(items: &mut Items, value: Value, room: usize) -> Result<(), AllocError>
-    ensures { OnOk result (items.new ≡ items.old ++ value ∷ []) }
-{
-    if items.is_empty() {
-        items.reserve_exact(room.min(FIRST_ROOM))?;
-    }
-    items.push(value)
-}
-
-/// Adds to a list the leaves and the references to one of so many nodes that lie whole at the front of a piece, but no more
-/// than so many.
-fn push_run(
-    alloc: Global,
-    items: &mut Items,
-    piece: &[u8],
-    most: usize,
-    nodes: usize,
-) -> Result<Taken, AllocError>
-    ensures { IfOk result (AddsValues nodes items.old piece.now most items.new) }
-{
-    if items.is_empty() {
-        items.reserve_exact(most.min(FIRST_ROOM))?;
-    }
-    push_values(alloc, items, piece, most, nodes)
-}
-
 /// Adds a value to a node that has begun.
 #[inline(always)]
 fn push_to(node: &mut Node, value: Value, room: usize) -> Result<(), AllocError>
-    requires { IsOpen node.old }
-    ensures open { IsOpen node.new }
+    requires { HasNoPairs node.old }
+    ensures unpaired { HasNoPairs node.new }
     ensures added { OnOk result (node.new ≡ and_items node.old (value ∷ [])) }
 {
     match node {
         Node::List { items, .. } => push_value(items, value, room),
+        // Until the pairs are made no node of the table is a map.
         Node::Map { .. } => Ok(()),
         Node::Object { values, .. } => push_value(values, value, room),
     }
@@ -100,39 +69,27 @@ fn push_run_to(
     most: usize,
     nodes: usize,
 ) -> Result<Taken, AllocError>
-    requires { IsOpen node.old }
-    ensures open { IsOpen node.new }
+    requires { HasNoPairs node.old }
+    ensures unpaired { HasNoPairs node.new }
     ensures added { IfOk result (GrowsBy nodes node.old piece.now most node.new) }
 {
     match node {
-        Node::List { items, .. } => push_run(alloc, items, piece, most, nodes),
+        Node::List { items, .. } => push_values(alloc, items, piece, most, nodes),
+        // Until the pairs are made no node of the table is a map.
         Node::Map { .. } => Ok(Taken {
             values: 0,
             bytes: 0,
         }),
-        Node::Object { values, .. } => push_run(alloc, values, piece, most, nodes),
+        Node::Object { values, .. } => push_values(alloc, values, piece, most, nodes),
     }
 }
 
-/// Makes the pairs of a list that stands for a map.
-fn close(alloc: Global, node: &mut Node) -> Result<(), AllocError>
-    ensures { OnOk result (ClosesNode node.old node.new) }
-{
-    if let Node::List { type_name, items } = node {
-        let type_name = *type_name;
-        let values = mem::replace(items, Items::from(Vec::new(alloc)));
-        let pairs = Pairs::from(pairs_of(alloc, values.into_inner())?);
-        *node = Node::Map { type_name, pairs };
-    }
-    Ok(())
-}
-
-impl Table {
+impl NodeTable {
     /// No nodes.
-    pub fn new(alloc: Global) -> Table
+    pub fn new(alloc: Global) -> NodeTable
         ensures { result ≡ [] }
     {
-        Table {
+        NodeTable {
             nodes: Vec::new(alloc),
             maps: Vec::new(alloc),
         }
@@ -157,10 +114,13 @@ impl Table {
                 push(&mut self.nodes, Node::List { type_name, items })?;
                 push(&mut self.maps, node)
             }
-            Sort::Object(class) => {
-                let values = items;
-                push(&mut self.nodes, Node::Object { class, values })
-            }
+            Sort::Object(class) => push(
+                &mut self.nodes,
+                Node::Object {
+                    class,
+                    values: items,
+                },
+            ),
         }
     }
 
@@ -202,10 +162,9 @@ impl Table {
     pub fn into_nodes(self, alloc: Global) -> Result<Vec<Node>, AllocError>
         ensures { IfOk result (λ nodes. AreNodesOf self nodes.items) }
     {
-        let Table { nodes, maps } = self;
-        let mut nodes = nodes;
+        let NodeTable { mut nodes, maps } = self;
         for map in maps {
-            close(alloc, &mut nodes[map as usize])?;
+            make_pairs(alloc, &mut nodes[map as usize])?;
         }
         Ok(nodes)
     }

@@ -3,12 +3,12 @@
 ghost use Rattle.std.specs.Prelude.{◌≡◌, ◌++◌, ◌∷◌, ◌<◌, [], length, true, Ok, Some, OnOk};
 ghost use Rattle.hessian_reader.specs.Leaves.{node_limit};
 ghost use Rattle.hessian_reader.specs.States.{start, begins_node, takes_value, moves_to, learns_type, awaits_fields, want_at, is_done};
-ghost use Rattle.hessian_reader.specs.Steps.{natural_of, at_value, may_end, end_step, behind_type, class_step, reference_step, type_step, length_step, count_step, number_step, words_step, node_step, header_step, head_step, take_element};
+ghost use Rattle.hessian_reader.specs.Steps.{at_value, may_end, end_step, behind_type, class_step, reference_step, type_step, length_step, count_step, number_step, words_step, node_step, header_step, head_step, take_element};
 ghost use Rattle.hessian_reader.specs.Views.{state_of, Does, Builds, HasRoom};
 ghost use Rattle.hessian_reader.specs.declared.stop.Stop.TheVariants.{Objects};
 ghost use Rattle.hessian_reader.specs.declared.stop.Objection.TheVariants.{TooMany};
 
-use crate::element::{Element, Form, Head, Want};
+use crate::element::{Element, Form, Head, Want, natural};
 use crate::names::NameTables;
 use crate::place::{ClassSoFar, Place};
 use crate::stop::{Objection, Stop};
@@ -30,13 +30,6 @@ pub struct Work {
     pub names: NameTables,
     /// What the next element stands for.
     pub place: Place,
-}
-
-/// A number that isn't negative.
-pub fn natural(number: i32) -> Option<u32>
-    ensures { result ≡ natural_of number }
-{
-    u32::try_from(number).ok()
 }
 
 impl Work {

@@ -2,10 +2,12 @@ use Rattle.std.proofs.Common.{◌-◌, ◌+◌, ◌≤◌, [], ◌∷◌, length
 use Rattle.hessian_text.proofs.Advancing.{rest_is}
 use Rattle.hessian_reader.specs.Runs.{AddsNext, AddsOne, AddsValues, AreValues}
 use Rattle.hessian_reader.proofs.Runs.{value_more, no_value}
-use Rattle.hessian_reader.proofs.leaves.push_values.Goals as goal
+use Rattle.hessian_reader.proofs.values.push_values.Goals as goal
 
 pub loop-count-init : goal.loop-count-init
-loop-count-init c = no_value c.args.nodes c.args.values.now c.args.piece.now c.args.most
+loop-count-init c =
+    let old = c.args.values.now in
+    subst (λ vs. AddsValues c.args.nodes old c.args.piece.now c.args.most vs (record { values = 0; bytes = 0 })) (sym c.make_room.ensures) (no_value c.args.nodes old c.args.piece.now c.args.most)
 
 pub loop-count-preserved : goal.loop-count-preserved
 loop-count-preserved c =

@@ -5,7 +5,7 @@ use Rattle.hessian_reader.specs.declared.element.Want.TheVariants.{AnInt}
 use Rattle.hessian_reader.specs.Codes.{head_of}
 use Rattle.hessian_reader.specs.Elements.{IsElement}
 use Rattle.hessian_reader.proofs.Runs.{one_reference}
-use Rattle.hessian_reader.proofs.leaves.reference_at_once.Goals as goal
+use Rattle.hessian_reader.proofs.values.reference_at_once.Goals as goal
 
 pub returns-in-Some-clause-is : goal.returns-in-Some-clause-is
 returns-in-Some-clause-is c =

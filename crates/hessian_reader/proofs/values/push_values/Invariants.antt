@@ -1,6 +1,6 @@
 use Rattle.std.proofs.Common.{◌-◌}
 use Rattle.hessian_reader.specs.Runs.{AddsValues}
-use Rattle.hessian_reader.proofs.leaves.push_values.Given as goal
+use Rattle.hessian_reader.proofs.values.push_values.Given as goal
 
 -- the values so far were added
 abbrev pub invariant-loop-count : goal.invariant-loop-count

@@ -4,7 +4,7 @@ use Rattle.hessian_reader.specs.declared.element.Element.TheVariants.{Plain}
 use Rattle.hessian_reader.specs.Elements.{IsElement}
 use Rattle.hessian_reader.proofs.Elements.{scalar_is}
 use Rattle.hessian_reader.proofs.Runs.{one_leaf}
-use Rattle.hessian_reader.proofs.leaves.push_scalar.Goals as goal
+use Rattle.hessian_reader.proofs.values.push_scalar.Goals as goal
 
 pub returns-in_ok-push-in-Some : goal.returns-in_ok-push-in-Some
 returns-in_ok-push-in-Some c = λ nodes.

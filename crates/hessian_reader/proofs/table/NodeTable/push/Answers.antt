@@ -4,7 +4,7 @@ use Rattle.hessian_graph.specs.Shape.{no_vertex}
 use Rattle.hessian_reader.specs.Nodes.{and_items}
 use Rattle.hessian_reader.specs.Runs.{with_items}
 use Rattle.hessian_reader.proofs.Kept.{grown, grown_past}
-use Rattle.hessian_reader.proofs.table.Table.push.Goals as goal
+use Rattle.hessian_reader.proofs.table.NodeTable.push.Goals as goal
 
 pub returns-in_ok-push_to : goal.returns-in_ok-push_to
 returns-in_ok-push_to c =

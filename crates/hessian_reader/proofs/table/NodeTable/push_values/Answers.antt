@@ -1,12 +1,12 @@
-use Rattle.std.proofs.Common.{sym, ap, subst, ◌∙◌, ◌∷◌, [], refl, arith}
+use Rattle.std.proofs.Common.{sym, subst, ◌∙◌, [], refl, arith}
 use Rattle.std.specs.Prelude.{IfOk}
 use Rattle.std.proofs.lemmas.List.{get_or_read_under}
 use Rattle.hessian_graph.specs.Shape.{no_vertex}
-use Rattle.hessian_reader.specs.Runs.{GrowsBy, with_items}
+use Rattle.hessian_reader.specs.Runs.{GrowsBy}
 use Rattle.hessian_reader.specs.Runs.AreValues.{none}
 use Rattle.hessian_reader.proofs.Runs.{items_none}
 use Rattle.hessian_reader.proofs.Kept.{grown_by}
-use Rattle.hessian_reader.proofs.table.Table.push_values.Goals as goal
+use Rattle.hessian_reader.proofs.table.NodeTable.push_values.Goals as goal
 
 pub returns-then-place-nodes : goal.returns-then-place-nodes
 returns-then-place-nodes c =

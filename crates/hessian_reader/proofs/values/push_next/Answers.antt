@@ -1,4 +1,4 @@
-use Rattle.hessian_reader.proofs.leaves.push_next.Goals as goal
+use Rattle.hessian_reader.proofs.values.push_next.Goals as goal
 
 pub returns-in-0-to-31 : goal.returns-in-0-to-31
 returns-in-0-to-31 c = c.push_text.ensures c.args.nodes
