@@ -1,4 +1,4 @@
-//! The least processor time that one round takes, with what it takes of memory given back.
+//! The least processor time that one round takes, until its answer is there and until its memory is given back.
 
 ghost use Rattle.std.specs.Prelude.{◌≡◌, ◌≢◌, IfErr};
 ghost use Rattle.hessian_graph.specs.Shape.{shape_of};
@@ -27,6 +27,33 @@ pub enum TimeFault {
     Write(WriteFault),
 }
 
+/// The processor time of a round, or the least of several.
+#[derive(Clone, Copy, Debug, PartialEq, Eq)]
+pub struct RoundTime {
+    /// Until its answer is there.
+    pub answered: Duration,
+    /// Until the memory of the answer is given back too.
+    pub given_back: Duration,
+}
+
+impl RoundTime {
+    /// Each time between these moments of a clock.
+    fn between(start: Duration, answer: Duration, end: Duration) -> RoundTime {
+        RoundTime {
+            answered: answer.saturating_sub(start),
+            given_back: end.saturating_sub(start),
+        }
+    }
+
+    /// The lesser of two, each time by itself.
+    fn least(self, other: RoundTime) -> RoundTime {
+        RoundTime {
+            answered: self.answered.min(other.answered),
+            given_back: self.given_back.min(other.given_back),
+        }
+    }
+}
+
 /// The processor time that this thread has used.
 fn now<C: CpuClock>(clock: &C) -> Result<Duration, TimeFault>
     ensures { IfErr result (λ fault. fault ≡ TimeFault.Clock) }
@@ -38,59 +65,67 @@ fn now<C: CpuClock>(clock: &C) -> Result<Duration, TimeFault>
 }
 
 /// The time of one reading.
-fn reading_time<C: CpuClock>(clock: &C, alloc: Global, bytes: &[u8]) -> Result<Duration, TimeFault>
+fn reading_time<C: CpuClock>(clock: &C, alloc: Global, bytes: &[u8]) -> Result<RoundTime, TimeFault>
     ensures { IfErr result (λ fault. (cause : Faults) → fault ≡ TimeFault.Read cause → cause ≢ HessianFault.OutOfMemory → IsRefusedBy 1 bytes.now cause) }
 {
     let start = now(clock)?;
-    match read_rounds(alloc, bytes, 1) {
-        Ok(graph) => drop(graph),
+    let graph = match read_rounds(alloc, bytes, 1) {
+        Ok(graph) => graph,
         Err(fault) => return Err(TimeFault::Read(fault)),
-    }
+    };
+    let answer = now(clock)?;
+    drop(graph);
     let end = now(clock)?;
-    Ok(end.saturating_sub(start))
+    Ok(RoundTime::between(start, answer, end))
 }
 
-/// The least time of so many readings of these bytes, at least one.
+/// The least times of so many readings of these bytes, at least one.
 pub fn least_reading<C: CpuClock>(
     clock: &C,
     alloc: Global,
     bytes: &[u8],
     rounds: u32,
-) -> Result<Duration, TimeFault>
+) -> Result<RoundTime, TimeFault>
     ensures { IfErr result (λ fault. (cause : Faults) → fault ≡ TimeFault.Read cause → cause ≢ HessianFault.OutOfMemory → IsRefusedBy 1 bytes.now cause) }
 {
     let mut least = reading_time(clock, alloc, bytes)?;
     for _ in 1..rounds {
-        least = least.min(reading_time(clock, alloc, bytes)?);
+        least = least.least(reading_time(clock, alloc, bytes)?);
     }
     Ok(least)
 }
 
 /// The time of one writing.
-fn writing_time<C: CpuClock>(clock: &C, alloc: Global, graph: &Graph) -> Result<Duration, TimeFault>
+fn writing_time<C: CpuClock>(
+    clock: &C,
+    alloc: Global,
+    graph: &Graph,
+) -> Result<RoundTime, TimeFault>
     ensures { IfErr result (λ fault. fault ≡ TimeFault.Write WriteFault.TooLarge → ¬ IsWritable (shape_of graph.now)) }
 {
     let start = now(clock)?;
-    match write_rounds(alloc, graph, 1) {
-        Ok(bytes) => drop(bytes),
+    let bytes = match write_rounds(alloc, graph, 1) {
+        Ok(bytes) => bytes,
         Err(fault) => return Err(TimeFault::Write(fault)),
-    }
+    };
+    let answer = now(clock)?;
+    drop(bytes);
     let end = now(clock)?;
-    Ok(end.saturating_sub(start))
+    Ok(RoundTime::between(start, answer, end))
 }
 
-/// The least time of so many writings of a graph, at least one.
+/// The least times of so many writings of a graph, at least one.
 pub fn least_writing<C: CpuClock>(
     clock: &C,
     alloc: Global,
     graph: &Graph,
     rounds: u32,
-) -> Result<Duration, TimeFault>
+) -> Result<RoundTime, TimeFault>
     ensures { IfErr result (λ fault. fault ≡ TimeFault.Write WriteFault.TooLarge → ¬ IsWritable (shape_of graph.now)) }
 {
     let mut least = writing_time(clock, alloc, graph)?;
     for _ in 1..rounds {
-        least = least.min(writing_time(clock, alloc, graph)?);
+        least = least.least(writing_time(clock, alloc, graph)?);
     }
     Ok(least)
 }

@@ -1,15 +1,16 @@
 //! Reads or writes one graph in rounds, so that the library alone can be measured: no start of a process, no input and no notation.
 //!
 //! `codec_rounds read|write ROUNDS [least] < BYTES` takes the Hessian 2 bytes of one value. It prints how many nodes the last reading gave or how
-//! many bytes the last writing; with `least`, how many nanoseconds of processor time the least round took, its memory given back. Status 1: other
-//! words, an input that fails or is no graph, or a clock that fails; 4: the output failed.
+//! many bytes the last writing; with `least`, how many nanoseconds of processor time the least round took until its answer was there, and how many
+//! the least took until the memory of the answer was given back too. Status 1: other words, an input that fails or is no graph, or a clock that
+//! fails; 4: the output failed.
 #![tactic(auto)]
 
 mod least;
 mod rounds;
 mod words;
 
-use crate::least::{least_reading, least_writing};
+use crate::least::{RoundTime, least_reading, least_writing};
 use crate::rounds::{read_rounds, write_rounds};
 use crate::words::{Action, Rounds, Show, given, rounds_of};
 use dubbo_io::{Sink, StdSink, StdSource, read_all, write_all};
@@ -39,13 +40,13 @@ fn size(alloc: Global, rounds: Rounds, bytes: &[u8]) -> Option<usize> {
     }
 }
 
-/// The time of the least round.
+/// The times of the least rounds.
 fn shortest<C: CpuClock>(
     clock: &C,
     alloc: Global,
     rounds: Rounds,
     bytes: &[u8],
-) -> Option<Duration> {
+) -> Option<RoundTime> {
     match rounds.action {
         Action::Read => least_reading(clock, alloc, bytes, rounds.count).ok(),
         Action::Write => {
@@ -55,16 +56,34 @@ fn shortest<C: CpuClock>(
     }
 }
 
-/// The number that is printed.
-fn outcome<C: CpuClock>(clock: &C, alloc: Global, rounds: Rounds, bytes: &[u8]) -> Option<u64> {
+/// What is printed.
+enum Printed {
+    /// How many nodes or bytes the last round gave.
+    Size(u64),
+    /// How many nanoseconds the least rounds took: until the answer, and until its memory was given back.
+    Least(u64, u64),
+}
+
+/// A time in nanoseconds, where 64 bits hold it.
+fn nanoseconds(time: Duration) -> Option<u64> {
+    u64::try_from(time.as_nanos()).ok()
+}
+
+/// What the rounds give.
+fn outcome<C: CpuClock>(clock: &C, alloc: Global, rounds: Rounds, bytes: &[u8]) -> Option<Printed> {
     match rounds.show {
-        Show::Size => Some(size(alloc, rounds, bytes)? as u64),
-        Show::Least => u64::try_from(shortest(clock, alloc, rounds, bytes)?.as_nanos()).ok(),
+        Show::Size => Some(Printed::Size(size(alloc, rounds, bytes)? as u64)),
+        Show::Least => {
+            let least = shortest(clock, alloc, rounds, bytes)?;
+            let answered = nanoseconds(least.answered)?;
+            let given_back = nanoseconds(least.given_back)?;
+            Some(Printed::Least(answered, given_back))
+        }
     }
 }
 
 /// Writes a number and a line end, and answers the status.
-fn print<O: Sink>(output: &mut O, number: u64) -> u8
+fn print_number<O: Sink>(output: &mut O, number: u64) -> u8
     requires { (O.state output.old).open_to_all }
 {
     let mut buffer = Buffer::new();
@@ -73,6 +92,23 @@ fn print<O: Sink>(output: &mut O, number: u64) -> u8
         return 4;
     }
     0
+}
+
+/// Writes what is printed, its numbers on one line, and answers the status.
+fn print<O: Sink>(output: &mut O, printed: Printed) -> u8
+    requires { (O.state output.old).open_to_all }
+{
+    match printed {
+        Printed::Size(number) => print_number(output, number),
+        Printed::Least(answered, given_back) => {
+            let mut buffer = Buffer::new();
+            let digits = buffer.format(answered).as_bytes();
+            if write_all(output, digits).is_err() || write_all(output, b" ").is_err() {
+                return 4;
+            }
+            print_number(output, given_back)
+        }
+    }
 }
 
 fn main(rt: HostRuntime) -> ExitCode {
@@ -85,8 +121,8 @@ fn main(rt: HostRuntime) -> ExitCode {
     let Ok(bytes) = read_all(alloc, &mut input, INPUT_LIMIT) else {
         return ExitCode::from(1);
     };
-    let Some(number) = outcome(&rt, alloc, rounds, bytes.as_slice()) else {
+    let Some(printed) = outcome(&rt, alloc, rounds, bytes.as_slice()) else {
         return ExitCode::from(1);
     };
-    ExitCode::from(print(&mut output, number))
+    ExitCode::from(print(&mut output, printed))
 }

@@ -1,7 +1,9 @@
 //! What no clause says: that each round gives what one round gives, and how the least time is found.
 
-use crate::least::{TimeFault, least_reading, least_writing};
+use crate::least::{RoundTime, TimeFault, least_reading, least_writing};
 use crate::rounds::{read_rounds, write_rounds};
+use crate::{Printed, print};
+use dubbo_io::{MemSink, OutOfMemory};
 use hessian_reader::HessianFault;
 use std::io;
 use std::time::{CpuClock, Duration};
@@ -25,6 +27,12 @@ fn a_damaged_graph_is_refused_in_any_round(rt: HostRuntime) {
     assert_eq!(rt; refused, Some(HessianFault::Short { at: 3 }));
 }
 
+/// What a clock that stands still tells of a round.
+const NO_TIME: RoundTime = RoundTime {
+    answered: Duration::ZERO,
+    given_back: Duration::ZERO,
+};
+
 /// A clock that stands still.
 struct Still;
 
@@ -41,12 +49,12 @@ impl CpuClock for Still {
 #[test]
 fn no_time_passes_on_a_clock_that_stands_still(rt: HostRuntime) -> Result<(), TimeFault> {
     let alloc = rt.alloc();
-    assert_eq!(rt; least_reading(&Still, alloc, &KNOT, 3)?.as_nanos(), 0);
+    assert_eq!(rt; least_reading(&Still, alloc, &KNOT, 3)?, NO_TIME);
     let graph = match read_rounds(alloc, &KNOT, 1) {
         Ok(graph) => graph,
         Err(fault) => return Err(TimeFault::Read(fault)),
     };
-    assert_eq!(rt; least_writing(&Still, alloc, &graph, 3)?.as_nanos(), 0);
+    assert_eq!(rt; least_writing(&Still, alloc, &graph, 3)?, NO_TIME);
     Ok(())
 }
 
@@ -57,4 +65,21 @@ fn a_damaged_graph_has_no_time(rt: HostRuntime) {
         refused,
         Some(TimeFault::Read(HessianFault::Short { at: 3 }))
     );
+}
+
+#[test]
+fn the_times_stand_on_one_line(rt: HostRuntime) -> Result<(), OutOfMemory> {
+    let alloc = rt.alloc();
+    let mut output = MemSink::new(alloc, 7, 0, Vec::new(alloc))?;
+    assert_eq!(rt; print(&mut output, Printed::Least(12, 345)), 0);
+    assert_eq!(rt; output.bytes(), b"12 345\n".as_slice());
+    Ok(())
+}
+
+#[test]
+fn a_full_output_is_status_4(rt: HostRuntime) -> Result<(), OutOfMemory> {
+    let alloc = rt.alloc();
+    let mut output = MemSink::new(alloc, 3, 0, Vec::new(alloc))?;
+    assert_eq!(rt; print(&mut output, Printed::Least(12, 345)), 4);
+    Ok(())
 }
