@@ -1,3 +1,4 @@
+pub mod EqualRequests
 pub mod WalkNames
 pub mod Running
 pub mod Counting

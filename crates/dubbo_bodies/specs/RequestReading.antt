@@ -13,7 +13,7 @@ use Rattle.dubbo_bodies.specs.declared.message.Request.{Request}
 use Rattle.dubbo_bodies.specs.Fields.{fields_of}
 use Rattle.dubbo_bodies.specs.Refusals.{BodyCause, BadSerial, Hessian, NotText, Descriptor, BadKind, BadAttachments, RequestRefusal}
 
--- the two differ in the numbers of the types and classes of their arguments at most
+-- the two differ in how the types and classes of their arguments stand in their tables at most
 pub record SaysTheSame (r s : Request) : Type 0 where
   pub texts : fields_of r ≡ fields_of s
   pub args : shape_of r.args ≡ shape_of s.args

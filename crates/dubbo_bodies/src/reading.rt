@@ -1,6 +1,7 @@
 //! Requests that are read whole.
 
 ghost use Rattle.std.specs.Prelude.{◌≡◌, ◌≢◌, IfOk, IfErr, MatchResult};
+ghost use Rattle.hessian_graph.specs.InUse.{InOrderOfUse};
 ghost use Rattle.hessian_reader.specs.Leaves.{hessian, node_limit};
 ghost use Rattle.dubbo_bodies.specs.declared.message.Request.{Request as ARequest};
 ghost use Rattle.dubbo_bodies.specs.RequestBody.{RequestOf};
@@ -18,6 +19,9 @@ use std::alloc::Global;
 pub fn read_request(alloc: Global, header: &Header, body: &[u8]) -> Result<Request, RequestFault>
     // What is read is the request that the header and the body are.
     ensures ok { IfOk result (RequestOf hessian node_limit header.now body.now) }
+
+    // The types and classes of its arguments stand in the order of first use, each once.
+    ensures tables { IfOk result (λ r. InOrderOfUse r.args) }
 
     // Where they are a request, it is read, unless memory is wanted.
     ensures complete { (r : ARequest) → RequestOf hessian node_limit header.now body.now r

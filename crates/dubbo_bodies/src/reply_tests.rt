@@ -120,6 +120,13 @@ fn the_attachments_of_a_value_are_dropped(rt: HostRuntime) -> Result<(), Fail> {
 }
 
 #[test]
+fn the_attachments_of_an_exception_are_dropped(rt: HostRuntime) -> Result<(), Fail> {
+    let reply = read_reply(rt.alloc(), &header(2, 20), b"\x93\x97H\x04path\x01aZ")?;
+    assert!(rt; threw_number(&reply));
+    Ok(())
+}
+
+#[test]
 fn attachments_alone_are_the_value_null(rt: HostRuntime) -> Result<(), Fail> {
     let reply = read_reply(rt.alloc(), &header(2, 20), b"\x95N")?;
     assert!(rt; is_null(&reply));

@@ -42,6 +42,7 @@ impl Model for RequestReader {
 }
 
 impl RequestReader {
+    ghost use Rattle.hessian_graph.specs.InUse.{InOrderOfUse};
     ghost use Rattle.hessian_reader.specs.Leaves.{hessian, node_limit};
     ghost use Rattle.dubbo_header.specs.declared.header.Header.{Header as AHeader};
     ghost use Rattle.dubbo_bodies.specs.declared.message.Request.{Request as ARequest};
@@ -68,6 +69,9 @@ impl RequestReader {
         // The request is the one that the header and the bytes that were fed are.
         ensures ok { (header : AHeader) → self.started ≡ Some header
             → IfOk result (λ r. RequestOf hessian node_limit header self.fed r) }
+
+        // The types and classes of its arguments stand in the order of first use, each once.
+        ensures tables { IfOk result (λ r. InOrderOfUse r.args) }
 
         // Where they are a request, it is read, unless memory is wanted.
         ensures complete { (header : AHeader) → (r : ARequest) → self.started ≡ Some header

@@ -1,6 +1,7 @@
 //! The request of texts and of the graph of its values.
 
 ghost use Rattle.std.specs.Prelude.{◌≡◌, ◌≢◌, ◌<◌, ◌≤◌, ℕ, suc, IfOk, IfErr, length};
+ghost use Rattle.hessian_graph.specs.InUse.{InOrderOfUse};
 ghost use Rattle.hessian_graph.specs.Shape.{shape_of};
 ghost use Rattle.dubbo_bodies.specs.Fields.{FIELDS, fields_of};
 ghost use Rattle.dubbo_bodies.specs.RequestBody.{ValuesOf};
@@ -24,6 +25,7 @@ pub(crate) fn request_of(
     requires all { length texts.items ≡ FIELDS }
     ensures ok { (count : ℕ) → length graph.roots ≡ suc count
         → IfOk result (λ r. (fields_of r ≡ texts.items) × ValuesOf (shape_of graph) count r) }
+    ensures tables { IfOk result (λ r. InOrderOfUse r.args) }
     ensures why { (count : ℕ) → length graph.roots ≡ suc count
         → IfErr result (λ fault. fault ≢ RequestFault.OutOfMemory
         → (fault ≡ RequestFault.BadAttachments) × LacksAttachments (shape_of graph) count) }

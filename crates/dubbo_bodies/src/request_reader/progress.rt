@@ -25,6 +25,7 @@ pub(crate) enum Progress {
 }
 
 impl Progress {
+    ghost use Rattle.hessian_graph.specs.InUse.{InOrderOfUse};
     ghost use Rattle.hessian_reader.specs.Leaves.{hessian, node_limit};
     ghost use Rattle.dubbo_header.specs.declared.header.Header.{Header as AHeader};
     ghost use Rattle.dubbo_bodies.specs.RequestBody.{RequestOf};
@@ -86,6 +87,7 @@ impl Progress {
         requires sound { IsSound self at }
         ensures ok { (header : AHeader) → (fed : List ℕ) → at ≡ length fed → Stands self header fed
             → IfOk result (λ r. RequestOf hessian node_limit header fed r) }
+        ensures tables { IfOk result (λ r. InOrderOfUse r.args) }
         ensures why { (header : AHeader) → (fed : List ℕ) → at ≡ length fed → Stands self header fed
             → IfErr result (λ fault. fault ≢ RequestFault.OutOfMemory → IsRefusedRequest header fed fault) }
     {

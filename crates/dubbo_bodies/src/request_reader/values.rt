@@ -21,6 +21,7 @@ pub(crate) struct ValuePart {
 }
 
 impl ValuePart {
+    ghost use Rattle.hessian_graph.specs.InUse.{InOrderOfUse};
     ghost use Rattle.hessian_reader.specs.Leaves.{hessian, node_limit};
     ghost use Rattle.dubbo_header.specs.declared.header.Header.{Header};
     ghost use Rattle.dubbo_bodies.specs.RequestBody.{RequestOf};
@@ -68,6 +69,7 @@ impl ValuePart {
         requires sound { IsValuePart self at }
         ensures ok { (header : Header) → (fed : List ℕ) → at ≡ length fed → InValues self header fed
             → IfOk result (λ r. RequestOf hessian node_limit header fed r) }
+        ensures tables { IfOk result (λ r. InOrderOfUse r.args) }
         ensures why { (header : Header) → (fed : List ℕ) → at ≡ length fed → InValues self header fed
             → IfErr result (λ fault. fault ≢ RequestFault.OutOfMemory → IsRefusedRequest header fed fault) }
     {
