@@ -39,3 +39,6 @@ pub mod PieceSteps
 pub mod FieldArms
 pub mod ValueArms
 pub mod RequestBytes
+pub mod FieldRefusals
+pub mod OneRequestRefusal
+pub mod OneReplyRefusal

@@ -122,11 +122,11 @@ no_lack g z w reply before e beside_value (value_beside root last h r s c) lack 
 no_lack g z w reply before e beside_null (null_beside last h r s c) lack = nothing_lacks g last lack.last (last_of_one last lack.args lack.last (sym r ∙ lack.roots)) s lack.none
 no_lack g z w reply before e p o lack = absurd cc
 
-right_empty : (xs ys : List ℕ) → xs ++ ys ≡ [] → ys ≡ []
+pub right_empty : (xs ys : List ℕ) → xs ++ ys ≡ [] → ys ≡ []
 right_empty [] ys e = e
 right_empty (x ∷ xs) ys e = absurd cc
 
-int_first : (z : ℤ) (front rest body more : List ℕ) (code : ℕ) → IntSpelling hessian z front → body ≡ front ++ rest → body ≡ code ∷ more → BeginsNoInt hessian code → ⊥
+pub int_first : (z : ℤ) (front rest body more : List ℕ) (code : ℕ) → IntSpelling hessian z front → body ≡ front ++ rest → body ≡ code ∷ more → BeginsNoInt hessian code → ⊥
 int_first z [] rest body more code s e f none = let h = has_code (scalars.Int z) [] s in absurd (omega (arith, h))
 int_first z (c ∷ front) rest body more code s e f none = let same : c ≡ code = cc in none z front (subst (λ b. IntSpelling hessian z (b ∷ front)) same s)
 

@@ -1,15 +1,11 @@
 -- What is read of a request is bytes, and what its readers answer.
-use Rattle.std.proofs.Common.{◌≡◌, ◌≢◌, ℕ, List, [], ◌∷◌, ◌++◌, refl, sym, subst, arith}
+use Rattle.std.proofs.Common.{◌≡◌, ◌≢◌, ℕ, List, refl, sym, subst}
 use Rattle.std.specs.Prelude.{Result, Ok, Err, IfOk, IfErr, MatchResult}
-use Rattle.hessian_graph.specs.declared.value.Value.TheVariants as values
 use Rattle.hessian_graph.specs.Shape.{Text}
 use Rattle.hessian_text.specs.Spelling.{AreBytes}
-use Rattle.hessian_reader.specs.declared.element.Element.TheVariants as elements
-use Rattle.hessian_reader.specs.declared.element.Want.TheVariants as wants
-use Rattle.hessian_reader.specs.Elements.IsElement.{text as e_text}
 use Rattle.hessian_reader.specs.Faults.{faults}
 use Rattle.hessian_reader.specs.Leaves.{hessian, node_limit}
-use Rattle.hessian_reader.proofs.LeafBytes.{no_bytes, cons_bytes, element_bytes}
+use Rattle.hessian_reader.proofs.LeafBytes.{no_bytes}
 use Rattle.hessian_reader.proofs.OneWay.{bytes_both}
 use Rattle.hessian_reader.proofs.Running.{reads}
 use Rattle.hessian_reader.proofs.Stopping.{leads_bytes}
@@ -17,20 +13,15 @@ use Rattle.dubbo_header.specs.declared.header.Header.{Header}
 use Rattle.dubbo_bodies.specs.declared.fault.RequestFault.{RequestFault}
 use Rattle.dubbo_bodies.specs.declared.fault.RequestFault.TheVariants.{BadSerial, Hessian, NotText, Descriptor, BadAttachments, OutOfMemory}
 use Rattle.dubbo_bodies.specs.declared.message.Request.{Request}
-use Rattle.dubbo_bodies.specs.Fields.{NULL, FieldsSpelling}
+use Rattle.dubbo_bodies.specs.Fields.{FieldsSpelling}
 use Rattle.dubbo_bodies.specs.Fields.FieldsSpelling.{none as no_fields, one as one_field}
 use Rattle.dubbo_bodies.specs.Refusals.{BodyCause, RequestRefusal}
 use Rattle.dubbo_bodies.specs.RequestBody.{RequestOf}
 use Rattle.dubbo_bodies.specs.RequestReading.{SaysTheSame, IsRefusedRequest}
-use Rattle.dubbo_bodies.proofs.FieldsOnce.{FieldForm, form_of}
-use Rattle.dubbo_bodies.proofs.FieldsOnce.FieldForm.{a_text, a_null}
+use Rattle.dubbo_bodies.proofs.FieldsOnce.{form_of, field_bytes}
 use Rattle.dubbo_bodies.proofs.OneReading.{one_request, none_refused}
 
 -- ---- bytes
-
-field_bytes : {place : ℕ} {text : Text} {bytes : List ℕ} → FieldForm place text bytes → AreBytes bytes
-field_bytes {text = text} {bytes = bytes} (a_text s) = element_bytes wants.AnyValue bytes (elements.Plain (values.Text text)) (e_text text bytes s)
-field_bytes (a_null p t e) = subst AreBytes (sym e) (cons_bytes NULL [] (omega arith) no_bytes)
 
 fields_bytes : {place : ℕ} {texts : List Text} {bytes : List ℕ} → FieldsSpelling hessian place texts bytes → AreBytes bytes
 fields_bytes (no_fields place) = no_bytes

@@ -1,23 +1,22 @@
 -- Where a text stands at the front of bytes, they are not refused inside it.
 use Rattle.std.proofs.Common.{◌≡◌, ◌≢◌, ℕ, zero, suc, ◌+◌, ◌-◌, ◌<◌, ◌≤◌, List, [], ◌∷◌, ◌++◌, length, take, drop, refl, sym, ap, ◌∙◌, subst, arith, append_assoc, length-append}
-use Rattle.std.specs.Prelude.{slice_index, slice_range}
+use Rattle.std.specs.Prelude.{slice_range}
 use Rattle.std.proofs.lemmas.List.{take-append-le}
 use Rattle.std.proofs.Math.ListN.{get_or-append}
-use Rattle.std.proofs.Math.Seq.{take-append_seam}
 use Rattle.hessian_text.specs.declared.stage.Kind.{Kind}
 use Rattle.hessian_text.specs.declared.stage.Kind.TheVariants as kinds
 use Rattle.hessian_text.specs.declared.stage.Part.{Part}
-use Rattle.hessian_text.specs.declared.fault.TextFault.{TextFault}
-use Rattle.hessian_text.specs.declared.fault.TextFault.TheVariants as texts
 use Rattle.hessian_text.specs.ChunkHead.{ChunkHead, IsCode}
 use Rattle.hessian_text.specs.ChunkHead.ChunkHead.{text_short, text_middle, text_inner, text_final, binary_short, binary_middle, binary_inner, binary_final}
-use Rattle.hessian_text.specs.Refusal.{InnerChunks, IsBeforeItem, BeginsNoItem, IsBadCode, IsBadText, RefusesText}
+use Rattle.hessian_text.specs.Refusal.{InnerChunks, IsBeforeItem, BeginsNoItem, IsBadCode, IsBadText}
 use Rattle.hessian_text.specs.Refusal.InnerChunks.{none as no_chunks, chunk as one_chunk}
-use Rattle.hessian_text.specs.Spelling.{AreBytes, TextSpelling, IsSpelledAt}
-use Rattle.hessian_text.proofs.OneAnswer.{text_or_fault}
-use Rattle.hessian_graph.specs.Refusal.{Cause}
+use Rattle.hessian_text.specs.Spelling.{TextSpelling}
+use Rattle.hessian_graph.specs.Refusal.{Cause, BadCode, BadText}
 use Rattle.hessian_graph.specs.Shape.{Text}
 use Rattle.hessian_reader.specs.Faults.{faults}
+use Rattle.hessian_reader.proofs.InsideLeaf.{Inside}
+use Rattle.hessian_reader.proofs.InsideLeaf.Inside.{in_code, in_character}
+use Rattle.hessian_reader.proofs.OneInside.{not_inside}
 use Rattle.dubbo_bodies.specs.Fields.{NULL}
 use Rattle.dubbo_bodies.specs.Refusals.{TextRefused}
 use Rattle.dubbo_bodies.specs.Refusals.TextRefused.{bad_code, bad_character}
@@ -62,25 +61,15 @@ character_stays bytes more p h = record {
   begins = subst (BeginsNoItem kinds.Text h.left) (sym (rest_on p bytes more (let k = h.within in omega (arith, k)))) (none_begins h.left (drop p bytes) more h.begins);
 }
 
+-- what is refused inside a text is refused inside a leaf that is one
+pub refused_inside : {rest : List ℕ} {cause : Cause} → TextRefused faults rest cause → Inside 0 rest kinds.Text cause
+refused_inside (bad_code element rest p code some is) = in_code kinds.Text p code (BadCode p code) (code_stays element rest p code is) (ap (λ n. BadCode n code) (let e : p ≡ 0 + p = omega arith in e))
+refused_inside (bad_character element rest p is) = in_character p (BadText p) (character_stays element rest p is) (ap (λ n. BadText n) (let e : p ≡ 0 + p = omega arith in e))
+
 -- ---- a text at the front
 
-spelled_front : (text front b : List ℕ) → TextSpelling text front → IsSpelledAt kinds.Text (front ++ b) 0 text (length front)
-spelled_front text front b s = record {
-  after = omega arith;
-  within = let k = length-append front b in omega (arith, k);
-  spells = subst (TextSpelling text) (sym (from_first (front ++ b) (length front) ∙ take-append_seam front b)) s;
-}
-
-spelled_at : (text front b rest : List ℕ) → rest ≡ front ++ b → TextSpelling text front → IsSpelledAt kinds.Text rest 0 text (length front)
-spelled_at text front b rest e s = subst (λ xs. IsSpelledAt kinds.Text xs 0 text (length front)) (sym e) (spelled_front text front b s)
-
-text_not_refused : {rest : List ℕ} {cause : Cause} (text front b : List ℕ) → AreBytes rest → rest ≡ front ++ b → TextSpelling text front → TextRefused faults rest cause → ⊥
-text_not_refused text front b small e s (bad_code element rest p code some is) =
-    let k : ◌≡◌ {A = TextFault} (texts.BadCode p code) texts.OutOfMemory = text_or_fault (element ++ rest) text 0 (length front) (texts.BadCode p code) small (spelled_at text front b (element ++ rest) e s) (code_stays element rest p code is) in
-    absurd (cc)
-text_not_refused text front b small e s (bad_character element rest p is) =
-    let k : ◌≡◌ {A = TextFault} (texts.BadText p) texts.OutOfMemory = text_or_fault (element ++ rest) text 0 (length front) (texts.BadText p) small (spelled_at text front b (element ++ rest) e s) (character_stays element rest p is) in
-    absurd (cc)
+text_not_refused : {rest : List ℕ} {cause : Cause} (text front b : List ℕ) → rest ≡ front ++ b → TextSpelling text front → TextRefused faults rest cause → ⊥
+text_not_refused {cause = cause} text front b e s r = not_inside 0 kinds.Text text front b cause s (subst (λ xs. Inside 0 xs kinds.Text cause) e (refused_inside r))
 
 -- ---- null at the front
 
@@ -146,6 +135,6 @@ null_not_refused b e (bad_character element rest p is) =
     let behind : IsBeforeItem kinds.Text is.part is.left (take p element) = subst (IsBeforeItem kinds.Text is.part is.left) (from_first element p) is.behind in
     null_front (element ++ rest) b (take p element) e (item_first is.part is.left (take p element) behind) p (sym (take-append-le p element rest (omega (arith, inside))))
 
-pub field_not_refused : {place : ℕ} {rest : List ℕ} {cause : Cause} (text : Text) (front b : List ℕ) → AreBytes rest → rest ≡ front ++ b → FieldForm place text front → TextRefused faults rest cause → ⊥
-field_not_refused text front b small e (a_text s) r = text_not_refused text front b small e s r
-field_not_refused text front b small e (a_null p t f) r = null_not_refused b (e ∙ ap (λ xs. xs ++ b) f) r
+pub field_not_refused : {place : ℕ} {rest : List ℕ} {cause : Cause} (text : Text) (front b : List ℕ) → rest ≡ front ++ b → FieldForm place text front → TextRefused faults rest cause → ⊥
+field_not_refused text front b e (a_text s) r = text_not_refused text front b e s r
+field_not_refused text front b e (a_null p t f) r = null_not_refused b (e ∙ ap (λ xs. xs ++ b) f) r

@@ -30,3 +30,9 @@ pub fn no_request_is_refused()
     ensures { (header : Header) → (body : List ℕ) → (r : Request) → (cause : BodyCause)
         → RequestOf hessian node_limit header body r → RequestRefusal hessian faults node_limit header body cause → ⊥ }
 {}
+
+/// A header and a body are refused as a request for one cause at most.
+pub fn a_request_has_one_refusal()
+    ensures { (header : Header) → (body : List ℕ) → (one other : BodyCause)
+        → RequestRefusal hessian faults node_limit header body one → RequestRefusal hessian faults node_limit header body other → one ≡ other }
+{}

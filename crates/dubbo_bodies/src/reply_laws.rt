@@ -1,6 +1,6 @@
 //! Laws of replies that are read, as functions whose clauses are the laws. They do nothing when they are called.
 
-ghost use Rattle.std.specs.Prelude.{List, ℕ};
+ghost use Rattle.std.specs.Prelude.{◌≡◌, List, ℕ};
 ghost use Rattle.hessian_reader.specs.Leaves.{hessian, node_limit};
 ghost use Rattle.hessian_reader.specs.Faults.{faults};
 ghost use Rattle.dubbo_header.specs.declared.header.Header.{Header};
@@ -19,4 +19,10 @@ pub fn are_one_reply()
 pub fn no_reply_is_refused()
     ensures { (header : Header) (body : List ℕ) (reply : Reply) (cause : BodyCause)
         → ReplyOf hessian node_limit header body reply → ReplyRefusal hessian faults node_limit header body cause → ⊥ }
+{}
+
+/// A header and a body are refused as a reply for one cause at most.
+pub fn a_reply_has_one_refusal()
+    ensures { (header : Header) (body : List ℕ) (one other : BodyCause)
+        → ReplyRefusal hessian faults node_limit header body one → ReplyRefusal hessian faults node_limit header body other → one ≡ other }
 {}
