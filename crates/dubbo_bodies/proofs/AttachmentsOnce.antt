@@ -1,13 +1,12 @@
 -- Attachments, descriptors and roots: each is one.
-use Rattle.std.proofs.Common.{◌≡◌, ◌≢◌, ℕ, suc, ◌<◌, ◌≤◌, List, [], ◌∷◌, ◌++◌, length, refl, sym, ap, ◌∙◌, subst, arith}
+use Rattle.std.proofs.Common.{◌≡◌, ℕ, ◌<◌, List, [], ◌∷◌, ◌++◌, length, refl, ap, ◌∙◌, arith}
 use Rattle.std.specs.Prelude.{All, Ok, Err, Result}
 use Rattle.std.proofs.lemmas.List.Elements.{All-nil, All-cons, All-tail, All-head}
 use Rattle.hessian_graph.specs.declared.value.Value.{Value}
-use Rattle.hessian_graph.specs.declared.value.Value.TheVariants as values
-use Rattle.hessian_graph.specs.Shape.{Text, Shape, values_at}
+use Rattle.hessian_graph.specs.Shape.{Text, Shape}
 use Rattle.dubbo_bodies.specs.declared.attachment.Attachment.{Attachment}
 use Rattle.dubbo_bodies.specs.declared.fault.DescFault.{DescFault}
-use Rattle.dubbo_bodies.specs.Attachments.{IsNoText, TextPairs, AttachmentsOf}
+use Rattle.dubbo_bodies.specs.Attachments.{TextPairs, AttachmentsOf}
 use Rattle.dubbo_bodies.specs.Attachments.AttachmentsOf.{nothing, map as a_map}
 use Rattle.dubbo_bodies.specs.Attachments.TextPairs.{none as no_pairs, kept, dropped}
 use Rattle.dubbo_bodies.specs.Descriptor.{IsPrimitive, IsNameByte, Parameter, Parameters, HasArgs, Tells}

@@ -1,6 +1,6 @@
 -- A graph that bytes denote is its own canonical form: its nodes begin in the order of a first visit.
-use Rattle.std.proofs.Common.{◌≡◌, ℕ, zero, suc, ◌+◌, ◌<◌, ◌≤◌, List, [], ◌∷◌, ◌++◌, length, get_or, take, map, refl, ap, sym, ◌∙◌, subst, arith, append_assoc, inl, inr}
-use Rattle.std.specs.Prelude.{Option, Some, None, All}
+use Rattle.std.proofs.Common.{◌≡◌, ℕ, zero, suc, ◌+◌, ◌<◌, ◌≤◌, List, [], ◌∷◌, ◌++◌, length, get_or, take, map, refl, ap, sym, ◌∙◌, subst, arith, inl, inr}
+use Rattle.std.specs.Prelude.{Some, None, All}
 use Rattle.std.proofs.lemmas.List.{length-append, map-append, take_all, append-nil}
 use Rattle.std.proofs.lemmas.List.Elements.{All-head, All-tail}
 use Rattle.std.proofs.Math.Seq.{take-suc}
@@ -9,7 +9,7 @@ use Rattle.hessian_graph.specs.declared.value.Value.TheVariants as values
 use Rattle.hessian_graph.specs.Shape.{Text, Shape, NodeShape, no_node, node_of, values_at}
 use Rattle.hessian_graph.specs.Canon.{Visit, IsCanon, in_order, moved, renumbered, place_of, place_or_zero}
 use Rattle.hessian_graph.specs.Canon.Visit.{done, plain, again, first}
-use Rattle.hessian_graph.specs.Reading.{Tables, Leaves, IsScalar, one_more}
+use Rattle.hessian_graph.specs.Reading.{Tables, Leaves, IsScalar}
 use Rattle.hessian_graph.specs.Reading.IsScalar.{null, bool, int, long, date}
 use Rattle.hessian_graph.specs.Spells.{TypeSpelling, Spells, SpellsAll, Denotes, SpellsGraph}
 use Rattle.hessian_graph.specs.Spells.TypeSpelling.{named, numbered}

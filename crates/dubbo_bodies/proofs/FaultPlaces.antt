@@ -1,5 +1,5 @@
 -- The places of faults, and faults behind other bytes.
-use Rattle.std.proofs.Common.{◌≡◌, ◌≢◌, ℕ, ◌+◌, ◌-◌, ◌<◌, ◌≤◌, List, [], ◌∷◌, ◌++◌, length, refl, sym, ap, ◌∙◌, subst, arith, length-append, inl, inr, ◌⊎◌}
+use Rattle.std.proofs.Common.{◌≡◌, ◌≢◌, ℕ, ◌+◌, ◌≤◌, List, [], ◌∷◌, ◌++◌, length, refl, sym, ap, ◌∙◌, arith, length-append, inl, inr}
 use Rattle.std.specs.Prelude.{ℤ}
 use Rattle.hessian_graph.specs.Loose.{Slot}
 use Rattle.hessian_graph.specs.Reading.{Tables}
@@ -11,7 +11,7 @@ use Rattle.hessian_reader.specs.declared.fault.HessianFault.{HessianFault}
 use Rattle.hessian_reader.specs.declared.fault.HessianFault.TheVariants as told
 use Rattle.hessian_reader.specs.Faults.{faults}
 use Rattle.hessian_reader.specs.Leaves.{hessian, node_limit}
-use Rattle.hessian_reader.specs.Refusing.{fault_of, IsStoppedBy, IsRefusedBy}
+use Rattle.hessian_reader.specs.Refusing.{fault_of}
 use Rattle.dubbo_bodies.specs.FaultsBehind.{place_of, place_in, fault_later}
 use Rattle.dubbo_bodies.specs.Refusals.{behind}
 use Rattle.dubbo_bodies.specs.declared.fault.RequestFault.{RequestFault}

@@ -2,31 +2,29 @@
 use Rattle.std.proofs.Common.{◌≡◌, ◌≢◌, ℕ, zero, suc, ◌+◌, ◌-◌, ◌<◌, ◌≤◌, List, [], ◌∷◌, ◌++◌, length, get_or, take, refl, sym, ap, ◌∙◌, subst, arith, length-append}
 use Rattle.std.specs.Prelude.{slice_index, None}
 use Rattle.std.proofs.Math.Seq.{take-suc}
-use Rattle.std.proofs.lemmas.List.{append-nil, length-take-le, take_all}
+use Rattle.std.proofs.lemmas.List.{length-take-le, take_all}
 use Rattle.hessian_graph.specs.Shape.{Text}
 use Rattle.hessian_text.specs.declared.stage.Kind.TheVariants as kinds
 use Rattle.hessian_text.specs.declared.stage.Stage.TheVariants as stages
 use Rattle.hessian_text.specs.Reader.{Reading, Advances, RefusesCode, RefusesItem}
-use Rattle.hessian_text.specs.Refusal.{BeginsNothing, IsBadCode, IsBadText}
+use Rattle.hessian_text.specs.Refusal.{BeginsNothing}
 use Rattle.hessian_text.specs.Spelling.{AreBytes, TextSpelling}
 use Rattle.hessian_text.proofs.Answering.{take_bytes}
 use Rattle.hessian_reader.specs.declared.fault.HessianFault.TheVariants as told
-use Rattle.hessian_reader.specs.declared.reader.GraphReader.{GraphReader}
 use Rattle.hessian_reader.specs.Leaves.{hessian}
 use Rattle.hessian_reader.specs.Reading.{HasRead, refusal_of}
 use Rattle.hessian_reader.proofs.LeafBytes.{no_bytes}
 use Rattle.hessian_reader.proofs.OneWay.{bytes_both}
 use Rattle.dubbo_header.specs.declared.header.Header.{Header}
-use Rattle.dubbo_bodies.specs.declared.fault.RequestFault.{RequestFault}
 use Rattle.dubbo_bodies.specs.declared.fault.RequestFault.TheVariants as faulty
 use Rattle.dubbo_bodies.specs.declared.request_reader.fields.FieldPart.{FieldPart}
 use Rattle.dubbo_bodies.specs.declared.request_reader.values.ValuePart.{ValuePart}
 use Rattle.dubbo_bodies.specs.Descriptor.{HasArgs}
-use Rattle.dubbo_bodies.specs.Fields.{FIELDS, DESCRIPTOR, NULL, VERSION, BeginsWith}
+use Rattle.dubbo_bodies.specs.Fields.{FIELDS, DESCRIPTOR, BeginsWith}
 use Rattle.dubbo_bodies.specs.Fields.FieldSpelling.{text as f_text}
 use Rattle.dubbo_bodies.specs.RequestReading.{IsRefusedRequest}
 use Rattle.dubbo_bodies.specs.RequestStages.{InFields, InValues, StaysRefused}
-use Rattle.dubbo_bodies.proofs.FieldSteps.{begins_more, one_begins, came_at, fresh, none_came, came_more, whole_text, inside_text, code_refused, item_refused, begun_low, field_refused, code_stays, character_stays, short_text, null_field}
+use Rattle.dubbo_bodies.proofs.FieldSteps.{begins_more, one_begins, came_at, fresh, none_came, came_more, whole_text, inside_text, code_refused, item_refused, begun_low, code_stays, character_stays, short_text}
 use Rattle.dubbo_bodies.proofs.ValueSteps.{none_ends}
 
 -- ---- where a text begins

@@ -1,7 +1,7 @@
 -- Texts in front of the values, read as their bytes come: what whole texts and a part of one are.
-use Rattle.std.proofs.Common.{◌≡◌, ◌≢◌, ℕ, zero, suc, ◌+◌, ◌-◌, ◌<◌, ◌≤◌, List, [], ◌∷◌, ◌++◌, length, get_or, take, drop, refl, sym, ap, ◌∙◌, subst, arith, append_assoc, length-append}
+use Rattle.std.proofs.Common.{◌≡◌, ◌≢◌, ℕ, suc, ◌+◌, ◌-◌, ◌<◌, ◌≤◌, List, [], ◌∷◌, ◌++◌, length, take, refl, sym, ap, ◌∙◌, subst, arith, append_assoc, length-append}
 use Rattle.std.specs.Prelude.{slice_index, Result, Err, ◌↔◌}
-use Rattle.std.proofs.lemmas.List.{append-nil, get_or-append-add, take-append-drop}
+use Rattle.std.proofs.lemmas.List.{append-nil, get_or-append-add}
 use Rattle.std.proofs.Math.Seq.{take-append-add}
 use Rattle.hessian_graph.specs.Shape.{Text}
 use Rattle.hessian_graph.specs.Refusal.Cause.{BadCode, BadText}
@@ -16,22 +16,19 @@ use Rattle.hessian_text.specs.Spelling.{AreBytes, TextSpelling}
 use Rattle.hessian_text.proofs.Advancing.{advances_none, advances_more}
 use Rattle.hessian_text.proofs.Answering.{code_at, item_at, begun_within, goes_on}
 use Rattle.hessian_text.proofs.Running.{cut_short}
-use Rattle.hessian_reader.specs.Faults.{faults}
-use Rattle.hessian_reader.specs.Leaves.{hessian, node_limit}
+use Rattle.hessian_reader.specs.Leaves.{hessian}
 use Rattle.hessian_reader.specs.declared.fault.HessianFault.TheVariants as told
-use Rattle.hessian_reader.proofs.LeafBytes.{no_bytes}
 use Rattle.hessian_reader.proofs.OneWay.{bytes_both}
 use Rattle.dubbo_header.specs.declared.header.Header.{Header}
 use Rattle.dubbo_bodies.specs.declared.fault.DescFault.{DescFault}
 use Rattle.dubbo_bodies.specs.declared.fault.DescFault.TheVariants.{BadDescriptor, TooManyArgs}
-use Rattle.dubbo_bodies.specs.declared.fault.RequestFault.{RequestFault}
 use Rattle.dubbo_bodies.specs.declared.fault.RequestFault.TheVariants as faulty
-use Rattle.dubbo_bodies.specs.Descriptor.{HasArgs, StopsAt, ExceedsAt, Tells}
+use Rattle.dubbo_bodies.specs.Descriptor.{StopsAt, ExceedsAt, Tells}
 use Rattle.dubbo_bodies.specs.Fields.{HESSIAN, FIELDS, VERSION, DESCRIPTOR, NULL, FieldSpelling, FieldsSpelling, BeginsWith}
 use Rattle.dubbo_bodies.specs.Fields.OptionalText.{null as o_null}
 use Rattle.dubbo_bodies.specs.Fields.FieldSpelling.{text as f_text, version as f_version}
 use Rattle.dubbo_bodies.specs.Fields.FieldsSpelling.{none as no_fields, one as one_field}
-use Rattle.dubbo_bodies.specs.Refusals.{BodyCause, BadSerial, NotText, Hessian, Descriptor, behind, TextRefused, EndsInside, IsField, NoneBegins, RequestRefusal}
+use Rattle.dubbo_bodies.specs.Refusals.{BadSerial, NotText, Hessian, Descriptor, behind, EndsInside, IsField, NoneBegins}
 use Rattle.dubbo_bodies.specs.Refusals.TextRefused.{bad_code, bad_character}
 use Rattle.dubbo_bodies.specs.Refusals.RequestRefusal.{serial, not_text, in_text, short, descriptor}
 use Rattle.dubbo_bodies.specs.RequestReading.{IsRefusedRequest}

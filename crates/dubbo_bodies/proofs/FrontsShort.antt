@@ -1,7 +1,7 @@
 -- A shorter front of a request's body ends inside a text or inside the values.
-use Rattle.std.proofs.Common.{◌≡◌, ◌≢◌, ℕ, suc, ◌+◌, ◌<◌, ◌≤◌, List, [], ◌∷◌, ◌++◌, length, refl, sym, ap, ◌∙◌, subst, arith, append_assoc, length-append}
+use Rattle.std.proofs.Common.{◌≡◌, ◌≢◌, ℕ, suc, ◌+◌, ◌<◌, List, [], ◌∷◌, ◌++◌, length, refl, sym, ap, ◌∙◌, subst, arith, append_assoc, length-append}
 use Rattle.std.proofs.lemmas.List.{append-nil}
-use Rattle.hessian_graph.specs.Shape.{Text, Shape}
+use Rattle.hessian_graph.specs.Shape.{Text}
 use Rattle.hessian_graph.specs.Refusal.{Refusal, Short}
 use Rattle.hessian_graph.specs.Spells.{Denotes}
 use Rattle.hessian_text.specs.Spelling.{AreBytes}
@@ -14,7 +14,7 @@ use Rattle.dubbo_header.specs.declared.header.Header.{Header}
 use Rattle.dubbo_bodies.specs.declared.message.Request.{Request}
 use Rattle.dubbo_bodies.specs.Fields.{HESSIAN, FIELDS, FieldSpelling, FieldsSpelling, BeginsWith, fields_of}
 use Rattle.dubbo_bodies.specs.Fields.FieldsSpelling.{none as no_fields, one as one_field}
-use Rattle.dubbo_bodies.specs.Refusals.{Hessian, behind, EndsInside, IsField, RequestRefusal}
+use Rattle.dubbo_bodies.specs.Refusals.{Hessian, EndsInside, IsField, RequestRefusal}
 use Rattle.dubbo_bodies.specs.Refusals.RequestRefusal.{short, values}
 use Rattle.dubbo_bodies.specs.RequestBody.{RequestOf}
 use Rattle.dubbo_bodies.proofs.OneReading.{many_roots}

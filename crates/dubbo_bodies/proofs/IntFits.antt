@@ -1,5 +1,5 @@
 -- An int that bytes spell has 32 bits.
-use Rattle.std.proofs.Common.{◌≡◌, ℕ, List, sym, subst, arith, w32}
+use Rattle.std.proofs.Common.{ℕ, List, sym, subst, arith, w32}
 use Rattle.std.specs.Prelude.{ℤ, pos, negsuc, ◌≤ℤ◌, FitsSigned}
 use Rattle.std.proofs.lemmas.Int.{ints}
 use Rattle.hessian_scalars.specs.declared.scalar.Scalar.TheVariants as scalars

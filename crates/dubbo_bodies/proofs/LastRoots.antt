@@ -1,5 +1,5 @@
 -- The last root of a graph, and the graph without it.
-use Rattle.std.proofs.Common.{◌≡◌, ℕ, zero, suc, ◌+◌, ◌-◌, ◌<◌, ◌≤◌, List, [], ◌∷◌, ◌++◌, length, get_or, take, refl, sym, ap, ◌∙◌, subst, arith, length-append}
+use Rattle.std.proofs.Common.{◌≡◌, ℕ, zero, suc, ◌+◌, ◌-◌, List, [], ◌∷◌, ◌++◌, length, get_or, take, refl, sym, ap, ◌∙◌, subst, arith, length-append}
 use Rattle.std.specs.Prelude.{map, Some, None}
 use Rattle.std.specs.List.{flat_map}
 use Rattle.std.proofs.Math.Seq.{take-suc, take-append_seam}
@@ -9,7 +9,7 @@ use Rattle.hessian_graph.specs.declared.node.Node.TheVariants as nodes
 use Rattle.hessian_graph.specs.declared.parts.Parts.{Parts}
 use Rattle.hessian_graph.specs.declared.parts.PartsFault.{PartsFault}
 use Rattle.hessian_graph.specs.declared.value.Value.{Value}
-use Rattle.hessian_graph.specs.Faults.{IsSound, faults, faults_from, node_faults, value_faults}
+use Rattle.hessian_graph.specs.Faults.{IsSound, faults_from, node_faults, value_faults}
 use Rattle.hessian_graph.specs.declared.node.Class.{Class}
 use Rattle.hessian_graph.specs.Shape.{Text, Shape, NodeShape, node_shape, shape_of}
 use Rattle.hessian_graph.specs.Canon.{IsCanon}

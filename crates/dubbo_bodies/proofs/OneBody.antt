@@ -1,7 +1,6 @@
 -- A request and a reply have one written body each, and what an answer says of it.
 use Rattle.std.proofs.Common.{◌≡◌, ℕ, ◌<◌, ◌≤◌, List, ◌++◌, length, refl, sym, ◌∙◌, ap, subst, arith}
 use Rattle.std.specs.Prelude.{◌↔◌, Result, Ok, Err, IfOk, IfErr}
-use Rattle.hessian_graph.specs.declared.value.Value.TheVariants as values
 use Rattle.hessian_graph.specs.Shape.{Text, shape_of}
 use Rattle.hessian_graph.specs.Reading.{Leaves, OneSpelling}
 use Rattle.hessian_graph.specs.Spells.{TextsSpelling}

@@ -1,9 +1,8 @@
 -- Bytes begin with the number of one kind at most.
-use Rattle.std.proofs.Common.{◌≡◌, ◌≢◌, ℕ, List, [], ◌∷◌, ◌++◌, length, refl, ap, sym, ◌∙◌, subst, append_assoc}
+use Rattle.std.proofs.Common.{◌≡◌, ℕ, List, [], ◌++◌, ap, sym, ◌∙◌, subst}
 use Rattle.std.specs.Prelude.{ℤ}
 use Rattle.std.proofs.lemmas.List.{append-nil}
 use Rattle.hessian_graph.specs.Reading.{IntSpelling}
-use Rattle.hessian_scalars.specs.declared.scalar.Scalar.{Scalar}
 use Rattle.hessian_scalars.specs.declared.scalar.Scalar.TheVariants as scalars
 use Rattle.hessian_scalars.specs.ScalarSpelling.{ScalarSpelling}
 use Rattle.hessian_scalars.proofs.Laws.{goes_on, one_value}

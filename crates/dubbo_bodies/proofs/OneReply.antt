@@ -1,14 +1,12 @@
 -- A header and a body are one reply at most, and no reply is refused.
-use Rattle.std.proofs.Common.{◌≡◌, ◌≢◌, ℕ, suc, ◌+◌, ◌<◌, List, [], ◌∷◌, ◌++◌, length, refl, ap, sym, ◌∙◌, subst, arith, append_assoc, inl, inr}
-use Rattle.std.specs.Prelude.{ℤ, pos, ◌⊎◌}
+use Rattle.std.proofs.Common.{◌≡◌, ℕ, List, [], ◌∷◌, ◌++◌, length, ap, sym, ◌∙◌, subst, arith, append_assoc}
+use Rattle.std.specs.Prelude.{ℤ}
 use Rattle.std.proofs.lemmas.List.{append-nil}
 use Rattle.hessian_graph.specs.declared.value.Value.{Value as GraphValue}
-use Rattle.hessian_graph.specs.declared.parts.Parts.{Parts}
-use Rattle.hessian_graph.specs.Shape.{Text, Shape, shape_of}
+use Rattle.hessian_graph.specs.Shape.{Shape, shape_of}
 use Rattle.hessian_graph.specs.Canon.{IsCanon, in_order}
 use Rattle.hessian_graph.specs.Reading.{IntSpelling}
-use Rattle.hessian_graph.specs.Refusal.{Cause, BeginsNoInt}
-use Rattle.hessian_graph.specs.Spells.{Denotes}
+use Rattle.hessian_graph.specs.Refusal.{BeginsNoInt}
 use Rattle.hessian_graph.proofs.Visits.{one_visit}
 use Rattle.hessian_scalars.specs.declared.scalar.Scalar.TheVariants as scalars
 use Rattle.hessian_scalars.specs.ScalarSpelling.{ScalarSpelling}
@@ -21,9 +19,8 @@ use Rattle.hessian_reader.proofs.OneWay.{one_graph, bytes_front, bytes_rest}
 use Rattle.hessian_reader.proofs.Further.{as_many_roots}
 use Rattle.hessian_reader.proofs.RefusalLaws.{denoted_not_refused}
 use Rattle.dubbo_header.specs.declared.header.Header.{Header}
-use Rattle.dubbo_bodies.specs.declared.attachment.Attachment.{Attachment}
 use Rattle.dubbo_bodies.specs.declared.message.Reply.{Reply}
-use Rattle.dubbo_bodies.specs.declared.message.Reply.TheVariants.{Value, Threw, Status}
+use Rattle.dubbo_bodies.specs.declared.message.Reply.TheVariants.{Status}
 use Rattle.dubbo_bodies.specs.Attachments.{AttachmentsOf, NoAttachments}
 use Rattle.dubbo_bodies.specs.Fields.{OptionalText}
 use Rattle.dubbo_bodies.specs.RequestBody.{with_roots}
@@ -34,10 +31,10 @@ use Rattle.dubbo_bodies.specs.ReplyBody.Outcome.{exception, value, null, excepti
 use Rattle.dubbo_bodies.specs.ReplyBody.ReplyOf.{outcome, status}
 use Rattle.dubbo_bodies.specs.RefusedReply.{IsSameReply}
 use Rattle.dubbo_bodies.specs.RefusedReply.IsSameReply.{exception as same_exception, status as same_status, value as same_value}
-use Rattle.dubbo_bodies.specs.Refusals.{BodyCause, ReplyRefusal, LacksAttachments, EndsInside, IsInt, IsOptionalText, TextRefused, NoneBegins}
+use Rattle.dubbo_bodies.specs.Refusals.{BodyCause, ReplyRefusal, LacksAttachments}
 use Rattle.dubbo_bodies.specs.Refusals.ReplyRefusal.{attachments as refusal_attachments, in_text as refusal_in_text, kind as refusal_kind, no_int as refusal_no_int, no_text as refusal_no_text, serial as refusal_serial, short_kind as refusal_short_kind, short_text as refusal_short_text, trailing as refusal_trailing, values as refusal_values}
-use Rattle.dubbo_bodies.proofs.OneKind.{SameKind, same_kind}
-use Rattle.dubbo_bodies.proofs.StatusTexts.{one_text, some_optional, no_text_refused}
+use Rattle.dubbo_bodies.proofs.OneKind.{same_kind}
+use Rattle.dubbo_bodies.proofs.StatusTexts.{one_text, no_text_refused}
 
 -- ---- one outcome
 

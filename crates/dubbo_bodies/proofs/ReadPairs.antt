@@ -1,9 +1,9 @@
 -- Attachments are read pair by pair.
-use Rattle.std.proofs.Common.{◌≡◌, ◌≢◌, ℕ, suc, ◌<◌, ◌≤◌, List, [], ◌∷◌, ◌++◌, length, get_or, take, drop, refl, sym, ap, ◌∙◌, subst, arith, append_assoc}
-use Rattle.std.specs.Prelude.{map, nat_lt, true, false, Option, Some, None}
+use Rattle.std.proofs.Common.{◌≡◌, ◌≢◌, ℕ, suc, ◌<◌, ◌≤◌, List, [], ◌∷◌, ◌++◌, length, get_or, drop, refl, sym, ap, ◌∙◌, subst, arith, append_assoc}
+use Rattle.std.specs.Prelude.{nat_lt, true, false, Option, Some, None}
 use Rattle.std.proofs.lemmas.Bool.Decides.{nat_tests}
 use Rattle.std.proofs.Math.Seq.{drop-cons}
-use Rattle.std.proofs.lemmas.List.{append-nil, get_or-map, get_or_default, length-map, drop_all}
+use Rattle.std.proofs.lemmas.List.{append-nil, get_or-map, length-map, drop_all}
 use Rattle.hessian_graph.specs.declared.node.Class.{Class}
 use Rattle.hessian_graph.specs.declared.node.Node.{Node}
 use Rattle.hessian_graph.specs.declared.node.Node.TheVariants as nodes
@@ -11,7 +11,7 @@ use Rattle.hessian_graph.specs.declared.parts.Parts.{Parts}
 use Rattle.hessian_graph.specs.declared.value.Pair.{Pair}
 use Rattle.hessian_graph.specs.declared.value.Value.{Value}
 use Rattle.hessian_graph.specs.declared.value.Value.TheVariants as values
-use Rattle.hessian_graph.specs.Shape.{Text, Shape, NodeShape, Kind, ListKind, MapKind, ObjectKind, alternately, node_shape, kind_of, type_of, values_of, shape_of, kind_at, values_at, no_node, no_vertex}
+use Rattle.hessian_graph.specs.Shape.{Text, Shape, NodeShape, MapKind, alternately, node_shape, kind_of, type_of, shape_of, kind_at, values_at, no_node}
 use Rattle.dubbo_bodies.specs.declared.attachment.Attachment.{Attachment}
 use Rattle.dubbo_bodies.specs.Attachments.{IsNoText, TextPairs, AttachmentsOf, NoAttachments}
 use Rattle.dubbo_bodies.specs.Attachments.AttachmentsOf.{nothing, map as a_map}

@@ -1,6 +1,6 @@
 -- What the readers of replies answer, from what their stages say.
 use Rattle.std.proofs.Common.{◌≡◌, ◌≢◌, ℕ, zero, suc, ◌<◌, true, false, arith, List, [], ◌∷◌, ◌++◌, length, refl, ap, sym, ◌∙◌, subst, append_assoc}
-use Rattle.std.specs.Prelude.{◌==◌, Option, Some, None, Result, Ok, Err, IfOk, IfErr, MatchResult}
+use Rattle.std.specs.Prelude.{◌==◌, Option, Some, Result, Ok, Err, IfOk, IfErr, MatchResult}
 use Rattle.std.proofs.lemmas.Bool.Decides.{nat_tests}
 use Rattle.std.proofs.lemmas.List.{append-nil}
 use Rattle.hessian_graph.specs.Refusal.{Short}
@@ -12,7 +12,6 @@ use Rattle.dubbo_bodies.specs.declared.message.Reply.{Reply}
 use Rattle.dubbo_bodies.specs.declared.reply_fault.ReplyFault.{ReplyFault}
 use Rattle.dubbo_bodies.specs.declared.reply_fault.ReplyFault.TheVariants as answers
 use Rattle.dubbo_bodies.specs.declared.reply_reader.stage.Stage.{Stage}
-use Rattle.dubbo_bodies.specs.declared.reply_reader.stage.Stage.TheVariants as stages
 use Rattle.dubbo_bodies.specs.Fields.{HESSIAN}
 use Rattle.dubbo_bodies.specs.Refusals.{BadSerial, Hessian, EndsInside, IsInt}
 use Rattle.dubbo_bodies.specs.Refusals.ReplyRefusal.{serial as refusal_serial, short_kind as refusal_short_kind}

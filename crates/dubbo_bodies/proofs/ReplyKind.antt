@@ -1,13 +1,13 @@
 -- The number of a kind, piece by piece.
-use Rattle.std.proofs.Common.{◌≡◌, ◌≢◌, ℕ, ◌+◌, ◌-◌, ◌<◌, ◌≤◌, true, false, List, [], ◌∷◌, ◌++◌, length, take, drop, refl, ap, sym, ◌∙◌, subst, arith, append_assoc, inl, inr}
-use Rattle.std.specs.Prelude.{ℤ, pos, Bool, MatchBool, Some, slice_get, slice_index, ◌⊎◌}
+use Rattle.std.proofs.Common.{◌≡◌, ℕ, ◌-◌, ◌<◌, true, false, List, [], ◌∷◌, ◌++◌, length, take, drop, refl, ap, sym, ◌∙◌, subst, arith, append_assoc, inl, inr}
+use Rattle.std.specs.Prelude.{ℤ, pos, Bool, MatchBool, Some, slice_get, slice_index}
 use Rattle.std.proofs.lemmas.Bool.Decides.{nat_tests}
-use Rattle.std.proofs.lemmas.List.{append-nil, length-append, take-append-drop}
+use Rattle.std.proofs.lemmas.List.{take-append-drop}
 use Rattle.hessian_graph.specs.Refusal.{BeginsNoInt, BadCode}
 use Rattle.hessian_graph.specs.Reading.{IntSpelling}
 use Rattle.hessian_scalars.specs.declared.scalar.Scalar.{Scalar}
 use Rattle.hessian_scalars.specs.declared.scalar.Scalar.TheVariants as scalars
-use Rattle.hessian_scalars.specs.ScalarSpelling.{ScalarSpelling, IsDoubleCode, IsCode}
+use Rattle.hessian_scalars.specs.ScalarSpelling.{ScalarSpelling, IsDoubleCode}
 use Rattle.hessian_scalars.specs.ScalarSpelling.ScalarSpelling.{int_in_code}
 use Rattle.hessian_scalars.specs.Read.{BeginsInt, BeginsNothing, IsInt, IsProperPrefix}
 use Rattle.hessian_scalars.specs.Codes.{is_int_code}
@@ -23,11 +23,9 @@ use Rattle.dubbo_bodies.specs.declared.reply_reader.stage.Stage.{Stage}
 use Rattle.dubbo_bodies.specs.declared.reply_reader.stage.Stage.TheVariants as stages
 use Rattle.dubbo_bodies.specs.Refusals.{Hessian, BadKind, EndsInside, IsInt as IsSomeInt}
 use Rattle.dubbo_bodies.specs.Refusals.ReplyRefusal.{kind as refusal_kind, no_int as refusal_no_int}
-use Rattle.dubbo_bodies.specs.RefusedReply.{IsRefusedReply}
-use Rattle.dubbo_bodies.specs.ReplyBody.{HasRoots, BeginsWithKind}
+use Rattle.dubbo_bodies.specs.ReplyBody.{BeginsWithKind}
 use Rattle.dubbo_bodies.specs.ReplyKinds.{IsNoKind}
 use Rattle.dubbo_bodies.specs.ReplyStages.{IsOutcome, AtKind, StaysRefused, Stands}
-use Rattle.dubbo_bodies.proofs.ReplyValues.{kind_behind}
 
 -- ---- the first byte
 

@@ -1,9 +1,9 @@
 -- What a kind makes of the values behind it.
-use Rattle.std.proofs.Common.{◌≡◌, ◌≢◌, ℕ, zero, suc, ◌+◌, ◌-◌, ◌<◌, ◌≤◌, List, [], ◌∷◌, ◌++◌, length, get_or, take, drop, map, drop-cons, Bor, refl, ap, sym, ◌∙◌, subst, arith, append_assoc}
+use Rattle.std.proofs.Common.{◌≡◌, ◌≢◌, ℕ, zero, suc, ◌+◌, ◌-◌, ◌<◌, ◌≤◌, List, [], ◌∷◌, ◌++◌, length, get_or, take, drop, map, drop-cons, Bor, refl, ap, sym, ◌∙◌, subst, arith}
 use Rattle.std.specs.Prelude.{ℤ, pos, Option, Some, None, Result, Ok, Err, IfErr, slice_get, MatchBool, Bool, true, false}
 use Rattle.std.specs.Slice.{IsItemAt}
 use Rattle.std.proofs.lemmas.Option.{slice_get-get_or}
-use Rattle.std.proofs.lemmas.List.{append-nil, length-append, length-map, drop_all, take_all}
+use Rattle.std.proofs.lemmas.List.{length-append, drop_all, take_all}
 use Rattle.std.proofs.Math.Seq.{take-suc}
 use Rattle.hessian_graph.specs.declared.value.Value.{Value}
 use Rattle.hessian_graph.specs.declared.value.Value.TheVariants as values
@@ -11,7 +11,7 @@ use Rattle.hessian_graph.specs.declared.value.Pair.{Pair}
 use Rattle.hessian_graph.specs.declared.node.Node.{Node}
 use Rattle.hessian_graph.specs.declared.node.Node.TheVariants as nodes
 use Rattle.hessian_graph.specs.declared.parts.Parts.{Parts}
-use Rattle.hessian_graph.specs.Shape.{Text, Kind, ListKind, MapKind, ObjectKind, Shape, NodeShape, no_class, no_node, shape_of, alternately, values_at, kind_at, node_shape, type_of}
+use Rattle.hessian_graph.specs.Shape.{Text, ListKind, MapKind, ObjectKind, Shape, NodeShape, no_class, no_node, shape_of, alternately, values_at, kind_at, node_shape, type_of}
 use Rattle.hessian_graph.specs.Canon.{IsCanon}
 use Rattle.dubbo_bodies.specs.declared.attachment.Attachment.{Attachment}
 use Rattle.dubbo_bodies.specs.Attachments.{IsNoText, TextPairs, AttachmentsOf, NoAttachments}
@@ -28,7 +28,7 @@ use Rattle.dubbo_bodies.specs.declared.reply_reader.kind.Kind.TheVariants as kin
 use Rattle.dubbo_bodies.specs.ReplyBody.HasRoots.{exception as r_exception, value as r_value, null as r_null}
 use Rattle.dubbo_bodies.specs.ReplyBody.HasBeside.{exception as b_exception, value as b_value, null as b_null}
 use Rattle.dubbo_bodies.specs.ReplyBody.Outcome.{exception as o_exception, value as o_value, null as o_null, exception_beside as o_exception_beside, value_beside as o_value_beside}
-use Rattle.dubbo_bodies.specs.ReplyBody.{AreSome, HasRoots, HasBeside, Outcome, null_alone}
+use Rattle.dubbo_bodies.specs.ReplyBody.{AreSome, HasRoots, Outcome, null_alone}
 use Rattle.dubbo_bodies.specs.Refusals.{LacksAttachments}
 use Rattle.dubbo_bodies.specs.ReplyKinds.{HasTextPairs, IsTextNode, LastAreSome, LastAreNone, FirstBeside, LacksBeside, SameKeys, number_of}
 

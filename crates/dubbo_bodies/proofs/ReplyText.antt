@@ -3,9 +3,8 @@ use Rattle.std.proofs.Common.{◌≡◌, ◌≢◌, ℕ, zero, suc, ◌+◌, ◌
 use Rattle.std.specs.Prelude.{Bool, true, false, MatchBool, slice_index, ◌⊎◌}
 use Rattle.std.proofs.lemmas.Bool.{cases_lt}
 use Rattle.std.proofs.lemmas.List.{append-nil, length-append, take-append-drop, take_all, get_or-append-add, length-take-le}
-use Rattle.std.proofs.Math.ListN.{get_or-append}
 use Rattle.hessian_graph.specs.Shape.{Text}
-use Rattle.hessian_graph.specs.Refusal.{Cause, BadCode, BadText, Short, Trailing}
+use Rattle.hessian_graph.specs.Refusal.{BadCode, BadText, Short, Trailing}
 use Rattle.hessian_text.specs.declared.stage.Kind.TheVariants.{Text as Letters}
 use Rattle.hessian_text.specs.declared.stage.Stage.TheVariants.{Code, Ended}
 use Rattle.hessian_text.specs.Reader.{Reading, Advances, RefusesCode, RefusesItem}
@@ -17,7 +16,6 @@ use Rattle.hessian_text.proofs.Advancing.{advances_none}
 use Rattle.hessian_text.proofs.Answering.{code_at, item_at, goes_on}
 use Rattle.hessian_reader.specs.declared.fault.HessianFault.TheVariants as told
 use Rattle.hessian_reader.specs.Leaves.{hessian, node_limit}
-use Rattle.hessian_reader.specs.Faults.{faults}
 use Rattle.hessian_reader.proofs.LexChunks.{joined, small_more}
 use Rattle.hessian_reader.proofs.OneWay.{bytes_front}
 use Rattle.dubbo_header.specs.declared.header.Header.{Header}
@@ -25,7 +23,7 @@ use Rattle.dubbo_bodies.specs.declared.message.Reply.TheVariants.{Status}
 use Rattle.dubbo_bodies.specs.declared.reply_fault.ReplyFault.TheVariants as answers
 use Rattle.dubbo_bodies.specs.Fields.{NULL, OptionalText}
 use Rattle.dubbo_bodies.specs.Fields.OptionalText.{text as a_text, null as a_null}
-use Rattle.dubbo_bodies.specs.Refusals.{Hessian, TextRefused, IsOptionalText, EndsInside, NoneBegins}
+use Rattle.dubbo_bodies.specs.Refusals.{Hessian, IsOptionalText, NoneBegins}
 use Rattle.dubbo_bodies.specs.Refusals.TextRefused.{bad_code, bad_character}
 use Rattle.dubbo_bodies.specs.Refusals.ReplyRefusal.{in_text as refusal_in_text, no_text as refusal_no_text, short_text as refusal_short_text, trailing as refusal_trailing}
 use Rattle.dubbo_bodies.specs.RefusedReply.{IsRefusedReply}

@@ -1,41 +1,37 @@
 -- The values behind the number of a kind, piece by piece.
-use Rattle.std.proofs.Common.{◌≡◌, ◌≢◌, ℕ, ◌+◌, ◌-◌, ◌<◌, ◌≤◌, List, [], ◌∷◌, ◌++◌, length, take, drop, refl, ap, sym, ◌∙◌, subst, arith, append_assoc, inl, inr}
+use Rattle.std.proofs.Common.{◌≡◌, ◌≢◌, ℕ, ◌+◌, ◌-◌, ◌<◌, ◌≤◌, List, [], ◌++◌, length, take, ap, sym, ◌∙◌, subst, arith, append_assoc, inl, inr}
 use Rattle.std.specs.Prelude.{ℤ, ◌⊎◌, None, Result, Ok, Err, IfOk, IfErr}
 use Rattle.std.proofs.lemmas.Bool.{cases_lt}
 use Rattle.std.proofs.lemmas.List.{append-nil, length-append, take-append-le, take_all}
 use Rattle.hessian_graph.specs.declared.parts.Parts.{Parts}
 use Rattle.hessian_graph.specs.Shape.{Shape, shape_of}
-use Rattle.hessian_graph.specs.Refusal.{Cause, Short, Double, BadCode, BadText, BadRef, BadType, BadClass, BadLength, TooManyNodes, Trailing, Refusal}
+use Rattle.hessian_graph.specs.Refusal.{Cause, Short, Double, BadCode, BadText, BadRef, BadType, BadClass, BadLength, TooManyNodes, Trailing}
 use Rattle.hessian_graph.specs.Reading.{IntSpelling}
 use Rattle.hessian_text.specs.Spelling.{AreBytes}
 use Rattle.hessian_reader.specs.declared.fault.HessianFault.{HessianFault}
 use Rattle.hessian_reader.specs.declared.fault.HessianFault.TheVariants as told
-use Rattle.hessian_reader.specs.declared.reader.Fed.{Fed}
 use Rattle.hessian_reader.specs.declared.reader.Fed.TheVariants as fed
-use Rattle.hessian_reader.specs.declared.reader.GraphReader.{GraphReader}
 use Rattle.hessian_reader.specs.Leaves.{hessian, node_limit, IsDenoted}
-use Rattle.hessian_reader.specs.Faults.{faults}
 use Rattle.hessian_reader.specs.Refusing.{fault_of, IsStoppedBy, IsRefusedBy}
 use Rattle.hessian_reader.specs.Reading.{EndsAt, HasRead, Tells, refusal_of}
 use Rattle.hessian_reader.proofs.Whole.{ends_once}
 use Rattle.hessian_reader.proofs.Behind.{trailing_refused}
-use Rattle.hessian_reader.proofs.Refusals.{stopped_stays, stopped_later}
+use Rattle.hessian_reader.proofs.Refusals.{stopped_stays}
 use Rattle.dubbo_header.specs.declared.header.Header.{Header}
 use Rattle.dubbo_bodies.specs.declared.message.Reply.{Reply}
 use Rattle.dubbo_bodies.specs.declared.reply_fault.ReplyFault.{ReplyFault}
 use Rattle.dubbo_bodies.specs.declared.reply_fault.ReplyFault.TheVariants as answers
 use Rattle.dubbo_bodies.specs.declared.reply_reader.kind.Kind.{Kind}
 use Rattle.dubbo_bodies.specs.declared.reply_reader.values.Values.{Values}
-use Rattle.dubbo_bodies.specs.declared.reply_reader.stage.Stage.TheVariants as stages
 use Rattle.dubbo_bodies.specs.FaultsBehind.{place_of}
-use Rattle.dubbo_bodies.specs.Refusals.{BodyCause, Hessian, BadAttachments, behind}
+use Rattle.dubbo_bodies.specs.Refusals.{Hessian, BadAttachments, behind}
 use Rattle.dubbo_bodies.specs.Refusals.ReplyRefusal.{attachments as refusal_attachments, values as refusal_values}
 use Rattle.dubbo_bodies.specs.RefusedReply.{IsRefusedReply}
 use Rattle.dubbo_bodies.specs.ReplyFaults.{ReplyFaultOf}
 use Rattle.dubbo_bodies.specs.ReplyBody.{HasRoots, Outcome, BeginsWithKind, ReplyOf}
 use Rattle.dubbo_bodies.specs.ReplyBody.ReplyOf.{outcome}
 use Rattle.dubbo_bodies.specs.ReplyKinds.{LacksBeside, number_of}
-use Rattle.dubbo_bodies.specs.ReplyStages.{IsOutcome, AtValues, BeginsValues, StaysRefused, Stands}
+use Rattle.dubbo_bodies.specs.ReplyStages.{IsOutcome, AtValues, BeginsValues, StaysRefused}
 use Rattle.dubbo_bodies.proofs.ReplyPlaces.{refusal_place}
 
 -- ---- more bytes behind a kind

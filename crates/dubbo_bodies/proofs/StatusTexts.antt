@@ -1,7 +1,7 @@
 -- The text of a status is one at most, and none is refused.
-use Rattle.std.proofs.Common.{◌≡◌, ◌≢◌, ℕ, ◌+◌, ◌<◌, ◌≤◌, List, [], ◌∷◌, ◌++◌, length, take, drop, refl, ap, sym, ◌∙◌, subst, arith, append_assoc, inl, inr}
-use Rattle.std.specs.Prelude.{None, Some, slice_range, slice_index, ◌⊎◌}
-use Rattle.std.proofs.lemmas.List.{append-nil, length-append, take-append-le, drop-append-le, take_all}
+use Rattle.std.proofs.Common.{◌≡◌, ◌≢◌, ℕ, ◌+◌, ◌<◌, ◌≤◌, List, [], ◌∷◌, ◌++◌, length, take, drop, refl, ap, sym, ◌∙◌, subst, arith, append_assoc}
+use Rattle.std.specs.Prelude.{Some, slice_range}
+use Rattle.std.proofs.lemmas.List.{length-append, take-append-le, drop-append-le, take_all}
 use Rattle.std.proofs.Math.ListN.{get_or-append}
 use Rattle.hessian_graph.specs.Shape.{Text}
 use Rattle.hessian_graph.specs.Refusal.{Cause}
@@ -10,8 +10,8 @@ use Rattle.hessian_text.specs.declared.stage.Kind.TheVariants.{Text as Letters}
 use Rattle.hessian_text.specs.declared.stage.Part.{Part}
 use Rattle.hessian_text.specs.declared.fault.TextFault.{TextFault}
 use Rattle.hessian_text.specs.declared.fault.TextFault.TheVariants as texts
-use Rattle.hessian_text.specs.Spelling.{AreBytes, Spelling, IsSpelledAt, TextSpelling}
-use Rattle.hessian_text.specs.Refusal.{IsBadCode, IsBadText, IsBeforeItem, InnerChunks, BeginsNoItem, RefusesText}
+use Rattle.hessian_text.specs.Spelling.{AreBytes, Spelling}
+use Rattle.hessian_text.specs.Refusal.{IsBadCode, IsBadText, IsBeforeItem, InnerChunks, RefusesText}
 use Rattle.hessian_text.specs.ChunkHead.{ChunkHead}
 use Rattle.hessian_text.specs.ChunkHead.ChunkHead.{text_short, text_middle, text_inner, text_final, binary_short, binary_middle, binary_inner, binary_final}
 use Rattle.hessian_text.proofs.Running.{spelled_once}
@@ -25,7 +25,7 @@ use Rattle.hessian_reader.proofs.LeafCodes.{chunk_kind}
 use Rattle.hessian_reader.proofs.Elements.{chunks_are, element_some}
 use Rattle.dubbo_bodies.specs.Fields.{OptionalText, NULL}
 use Rattle.dubbo_bodies.specs.Fields.OptionalText.{text as a_text, null as a_null}
-use Rattle.dubbo_bodies.specs.Refusals.{TextRefused, IsOptionalText, EndsInside, NoneBegins}
+use Rattle.dubbo_bodies.specs.Refusals.{TextRefused}
 use Rattle.dubbo_bodies.specs.Refusals.TextRefused.{bad_code, bad_character}
 
 -- no text begins with the code of null

@@ -1,17 +1,16 @@
 -- What each answer of the values' reading makes of the reading of a request.
-use Rattle.std.proofs.Common.{◌≡◌, ◌≢◌, ℕ, suc, ◌+◌, ◌-◌, ◌<◌, ◌≤◌, List, [], ◌∷◌, ◌++◌, length, take, get_or, refl, sym, ap, ◌∙◌, subst, arith, length-append}
+use Rattle.std.proofs.Common.{◌≡◌, ◌≢◌, ℕ, suc, ◌+◌, ◌<◌, ◌≤◌, List, [], ◌∷◌, ◌++◌, length, take, sym, ap, ◌∙◌, subst, arith, length-append}
 use Rattle.std.specs.Prelude.{None, Result, Ok, Err, IfErr}
 use Rattle.hessian_graph.specs.declared.parts.Parts.{Parts}
-use Rattle.hessian_graph.specs.Shape.{Text, Shape, shape_of}
-use Rattle.hessian_graph.specs.Refusal.{Cause}
+use Rattle.hessian_graph.specs.Shape.{Text, shape_of}
 use Rattle.hessian_reader.specs.declared.fault.HessianFault.{HessianFault}
 use Rattle.hessian_reader.specs.declared.fault.HessianFault.TheVariants as told
 use Rattle.hessian_reader.specs.declared.reader.Fed.{Fed}
 use Rattle.hessian_reader.specs.declared.reader.Fed.TheVariants as done
 use Rattle.hessian_reader.specs.declared.reader.GraphReader.{GraphReader}
 use Rattle.hessian_reader.specs.Leaves.{hessian, node_limit, IsDenoted}
-use Rattle.hessian_reader.specs.Reading.{EndsAt, HasRead, Tells, refusal_of}
-use Rattle.hessian_reader.specs.Refusing.{fault_of, IsStoppedBy, IsRefusedBy}
+use Rattle.hessian_reader.specs.Reading.{HasRead, Tells, refusal_of}
+use Rattle.hessian_reader.specs.Refusing.{IsStoppedBy, IsRefusedBy}
 use Rattle.dubbo_header.specs.declared.header.Header.{Header}
 use Rattle.dubbo_bodies.specs.declared.fault.RequestFault.{RequestFault}
 use Rattle.dubbo_bodies.specs.declared.fault.RequestFault.TheVariants as faulty
@@ -19,14 +18,13 @@ use Rattle.dubbo_bodies.specs.declared.message.Request.{Request}
 use Rattle.dubbo_bodies.specs.declared.request_reader.values.ValuePart.{ValuePart}
 use Rattle.dubbo_bodies.specs.Descriptor.{HasArgs}
 use Rattle.dubbo_bodies.specs.Fields.{DESCRIPTOR, BeginsWith, fields_of}
-use Rattle.dubbo_bodies.specs.FaultsBehind.{place_of}
 use Rattle.dubbo_bodies.specs.Refusals.{LacksAttachments}
 use Rattle.dubbo_bodies.specs.RequestBody.{ValuesOf, RequestOf}
 use Rattle.dubbo_bodies.specs.RequestReading.{IsRefusedRequest}
 use Rattle.dubbo_bodies.specs.RequestStages.{InValues, StaysRefused}
 use Rattle.dubbo_bodies.proofs.AttachmentsOnce.{same_last}
 use Rattle.dubbo_bodies.proofs.FieldSteps.{begins_more, came_at}
-use Rattle.dubbo_bodies.proofs.ValueSteps.{IsWhole, Behind, Moves, behind_more, done_at, stays_whole, values_stay, values_refused, trailing_stays, attachments_refused, all_denoted}
+use Rattle.dubbo_bodies.proofs.ValueSteps.{Behind, Moves, behind_more, done_at, stays_whole, values_stay, values_refused, trailing_stays, attachments_refused, all_denoted}
 
 pub behind_texts : (p : ValuePart) (header : Header) (fed : List ℕ) (i : InValues p header fed) → Behind header fed p.from i.came i.count
 behind_texts p header fed i = record { texts = i.texts; desc = i.desc; begins = subst (λ (ts : List Text). BeginsWith hessian header fed ts p.from i.came) i.texts_are i.begins; place = i.place; counted = i.counted }

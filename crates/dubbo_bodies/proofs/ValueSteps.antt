@@ -1,10 +1,10 @@
 -- The values behind the texts, read as their bytes come.
-use Rattle.std.proofs.Common.{◌≡◌, ◌≢◌, ℕ, suc, ◌+◌, ◌-◌, ◌<◌, ◌≤◌, List, [], ◌∷◌, ◌++◌, length, take, refl, sym, ap, ◌∙◌, subst, arith, length-append, inl, inr}
+use Rattle.std.proofs.Common.{◌≡◌, ◌≢◌, ℕ, suc, ◌+◌, ◌-◌, ◌<◌, ◌≤◌, List, [], ◌∷◌, ◌++◌, length, take, refl, ap, ◌∙◌, subst, arith, length-append, inl, inr}
 use Rattle.std.proofs.lemmas.Bool.{cases_lt}
-use Rattle.std.proofs.lemmas.List.{append-nil, take-append-le, take_all}
+use Rattle.std.proofs.lemmas.List.{take-append-le, take_all}
 use Rattle.hessian_graph.specs.declared.parts.Parts.{Parts}
 use Rattle.hessian_graph.specs.Shape.{Text, Shape, shape_of}
-use Rattle.hessian_graph.specs.Refusal.{Cause, Refusal, Stopped}
+use Rattle.hessian_graph.specs.Refusal.{Cause, Refusal}
 use Rattle.hessian_graph.specs.Spells.{Denotes}
 use Rattle.hessian_text.specs.Spelling.{AreBytes}
 use Rattle.hessian_reader.specs.declared.fault.HessianFault.{HessianFault}
@@ -24,7 +24,7 @@ use Rattle.dubbo_bodies.specs.declared.fault.RequestFault.TheVariants as faulty
 use Rattle.dubbo_bodies.specs.Descriptor.{HasArgs}
 use Rattle.dubbo_bodies.specs.Fields.{DESCRIPTOR, BeginsWith}
 use Rattle.dubbo_bodies.specs.FaultsBehind.{place_of, fault_later}
-use Rattle.dubbo_bodies.specs.Refusals.{BodyCause, Hessian, BadAttachments, behind, LacksAttachments, RequestRefusal}
+use Rattle.dubbo_bodies.specs.Refusals.{Hessian, BadAttachments, behind, LacksAttachments}
 use Rattle.dubbo_bodies.specs.Refusals.RequestRefusal.{values, attachments}
 use Rattle.dubbo_bodies.specs.RequestReading.{IsRefusedRequest}
 use Rattle.dubbo_bodies.specs.RequestStages.{StaysRefused}

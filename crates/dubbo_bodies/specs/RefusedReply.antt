@@ -1,5 +1,5 @@
 -- Why a reader answers no reply, and which replies it takes for one.
-use Rattle.std.specs.Prelude.{◌≡◌, ℕ, ℤ, List, false}
+use Rattle.std.specs.Prelude.{◌≡◌, ℕ, List, false}
 use Rattle.hessian_graph.specs.declared.parts.Parts.{Parts}
 use Rattle.hessian_graph.specs.Shape.{Text, shape_of}
 use Rattle.hessian_reader.specs.Leaves.{hessian, node_limit}

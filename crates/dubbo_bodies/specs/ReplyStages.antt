@@ -1,6 +1,5 @@
 -- Where the reading of a reply stands behind the bytes of its body that were fed.
 use Rattle.std.specs.Prelude.{◌≡◌, ◌≢◌, ℕ, List, [], ◌∷◌, ◌++◌, length, Option, Some, None}
-use Rattle.hessian_graph.specs.Reading.{IntSpelling}
 use Rattle.hessian_scalars.specs.Read.{BeginsInt, IsProperPrefix}
 use Rattle.hessian_text.specs.declared.stage.Kind.TheVariants.{Text as Letters}
 use Rattle.hessian_text.specs.declared.stage.Stage.TheVariants.{Code}

@@ -1,5 +1,5 @@
 -- The arguments of a request, without what stands behind them.
-use Rattle.std.specs.Prelude.{◌≡◌, ℕ, ◌-◌, length, take}
+use Rattle.std.specs.Prelude.{◌≡◌, ◌-◌, length, take}
 use Rattle.hessian_graph.specs.declared.parts.Parts.{Parts}
 
 -- the same parts, without the last root

@@ -1,9 +1,8 @@
-use Rattle.std.proofs.Common.{◌≡◌, sym, subst, ◌∙◌, ap, [], List}
+use Rattle.std.proofs.Common.{◌≡◌, sym, subst, ◌∙◌, ap}
 use Rattle.hessian_graph.specs.declared.value.Value.TheVariants as values
 use Rattle.hessian_graph.specs.Shape.{shape_of}
 use Rattle.std.specs.Prelude.{IfOk}
 use Rattle.hessian_graph.specs.declared.parts.Parts.{Parts}
-use Rattle.hessian_graph.specs.declared.node.Node.{Node}
 use Rattle.dubbo_bodies.specs.Attachments.{AttachmentsOf, NoAttachments}
 use Rattle.dubbo_bodies.specs.Attachments.AttachmentsOf.{nothing}
 use Rattle.dubbo_bodies.specs.AttachmentsRead.{FindsAttachments, FindsInNode}

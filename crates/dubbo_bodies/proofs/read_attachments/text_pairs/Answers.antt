@@ -1,4 +1,4 @@
-use Rattle.std.proofs.Common.{sym, subst, refl, add-one, ap, ◌∙◌}
+use Rattle.std.proofs.Common.{sym, subst, refl, add-one}
 use Rattle.dubbo_bodies.specs.AttachmentsRead.{FindsPairs}
 use Rattle.hessian_graph.specs.Shape.{alternately}
 use Rattle.std.specs.Prelude.{Some}

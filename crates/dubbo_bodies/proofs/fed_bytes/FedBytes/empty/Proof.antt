@@ -1,5 +1,5 @@
 -- `empty` makes a value of no bytes, whose ghost field is the empty list.
-use Rattle.dubbo_bodies.proofs.WalkNames.{◌≡◌, ℕ, List, [], ◌∷◌, refl, proved, leaves, by, SProp, emp, Fml, Val, vstruct, vcons, vnil, fact, fact_i, tables, ‵, raw, ◌⊛◌, ◌$◌, ◌∵◌, !, qed, keep, split, use0, suffices, move, join, done, no_more, and_then, returns, enter, alloc_all, pass_all, free_all, look_at, get, sets, agg, makes_shadow, types_at, type_at, owns, nothing, alive, Res, Stays, walk_of, ends_at}
+use Rattle.dubbo_bodies.proofs.WalkNames.{◌≡◌, [], ◌∷◌, refl, proved, leaves, by, emp, Fml, Val, vstruct, vcons, vnil, fact, fact_i, tables, ‵, raw, ◌⊛◌, ◌$◌, ◌∵◌, !, qed, keep, split, use0, no_more, and_then, returns, enter, alloc_all, pass_all, free_all, look_at, get, sets, agg, makes_shadow, types_at, type_at, owns, nothing, alive, Res, Stays, walk_of}
 use Rattle.dubbo_bodies.specs.contracts.fed_bytes.FedBytes.empty as f
 use Rattle.dubbo_bodies.proofs.fed_bytes.FedBytes.empty.Statement.{statement}
 use Rattle.dubbo_bodies.proofs.fed_bytes.FedBytes.empty.Code as code

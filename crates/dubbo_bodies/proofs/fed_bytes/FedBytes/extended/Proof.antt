@@ -1,5 +1,5 @@
 -- `extended` makes a value of no bytes, whose ghost field is the bytes before and then the piece.
-use Rattle.dubbo_bodies.proofs.WalkNames.{◌≡◌, ℕ, List, [], ◌∷◌, ◌++◌, length, refl, w64, proved, leaves, by, SProp, emp, Fml, named, Val, vstruct, vcons, vnil, vptr, vint, fact, fact_i, tables, ‵, raw, ◌⊛◌, ◌$◌, ◌∵◌, !, qed, keep, split, fjoin, use0, no_more, and_then, returns, enter, alloc_all, pass_all, free_all, look_at, get, sets, agg, makes_shadow, plain, types_at, type_at, RattleType, owns, nothing, yes, u8, RefOf, SliceRefOf, shr_vals, shr_Tells, slice_val, shr_slice_vals, shr_slice_Tells, shr_slice_Lawful, alive, Res, Stays, walk_of, stay_dropped, Goes-dropped}
+use Rattle.dubbo_bodies.proofs.WalkNames.{◌≡◌, [], ◌∷◌, ◌++◌, refl, proved, leaves, by, emp, Fml, named, Val, vstruct, vcons, vnil, fact, fact_i, tables, ‵, raw, ◌⊛◌, ◌$◌, ◌∵◌, !, qed, keep, split, fjoin, use0, no_more, and_then, returns, enter, alloc_all, pass_all, free_all, look_at, get, sets, agg, makes_shadow, plain, types_at, type_at, owns, nothing, yes, u8, RefOf, SliceRefOf, shr_vals, shr_Tells, shr_slice_vals, shr_slice_Tells, shr_slice_Lawful, alive, Res, Stays, walk_of, stay_dropped, Goes-dropped}
 use Rattle.dubbo_bodies.specs.contracts.fed_bytes.FedBytes as fed
 use Rattle.dubbo_bodies.specs.contracts.fed_bytes.FedBytes.extended as f
 use Rattle.dubbo_bodies.proofs.fed_bytes.FedBytes.extended.Statement.{statement}

@@ -1,4 +1,4 @@
-use Rattle.std.proofs.Common.{◌≡◌, ℕ, ◌++◌, ◌-◌, length, List, take, drop, sym, subst, ap, ◌∙◌, arith, w32}
+use Rattle.std.proofs.Common.{ℕ, ◌++◌, ◌-◌, length, List, take, drop, sym, subst, w32}
 use Rattle.std.specs.Prelude.{ℤ}
 use Rattle.std.proofs.lemmas.Int.{to_z-of_z}
 use Rattle.dubbo_header.specs.declared.header.Header.{Header}

@@ -1,11 +1,11 @@
-use Rattle.std.proofs.Common.{◌≡◌, ℕ, ◌++◌, take, true, false, sym, subst, ap, ◌∙◌, arith, w32}
+use Rattle.std.proofs.Common.{◌++◌, take, sym, subst, w32}
 use Rattle.std.specs.Prelude.{ℤ}
 use Rattle.std.proofs.lemmas.Int.{to_z-of_z}
 use Rattle.hessian_graph.specs.Reading.{IntSpelling}
 use Rattle.hessian_scalars.specs.Feeding.{Completes}
 use Rattle.hessian_reader.specs.Leaves.{hessian}
 use Rattle.dubbo_bodies.proofs.IntFits.{int_fits}
-use Rattle.dubbo_bodies.proofs.ReplyKind.{kind_refused, kind_more, kind_whole, kind_is_int, never_double, never_other}
+use Rattle.dubbo_bodies.proofs.ReplyKind.{kind_refused, kind_whole, kind_is_int, never_double, never_other}
 use Rattle.dubbo_bodies.proofs.reply_reader.kind.feed_kind.Goals as goal
 
 pub returns-then-refuses_first : goal.returns-then-refuses_first

@@ -1,11 +1,10 @@
-use Rattle.std.proofs.Common.{◌≡◌, ℕ, sym, subst, ap, ◌∙◌, List}
-use Rattle.std.specs.Prelude.{slice_get, Some, None}
-use Rattle.std.specs.Slice.{IsItemAt}
+use Rattle.std.proofs.Common.{◌≡◌, sym, subst, ap, ◌∙◌, List}
+use Rattle.std.specs.Prelude.{slice_get, Some}
 use Rattle.hessian_graph.specs.declared.node.Node.{Node}
 use Rattle.hessian_graph.specs.declared.parts.Parts.{Parts}
 use Rattle.hessian_graph.specs.Shape.{shape_of}
 use Rattle.dubbo_bodies.specs.ReplyBody.{AreSome}
-use Rattle.dubbo_bodies.proofs.ReplyOutcome.{null_is_some, value_answer, absent_value, item_there}
+use Rattle.dubbo_bodies.proofs.ReplyOutcome.{null_is_some, value_answer, item_there}
 use Rattle.dubbo_bodies.proofs.reply_reader.outcome.are_attachments.Goals as goal
 
 pub returns-in-Null : goal.returns-in-Null

@@ -1,4 +1,4 @@
-use Rattle.std.proofs.Common.{◌≡◌, ℕ, length, ◌≤◌, ap, subst, ◌∙◌}
+use Rattle.std.proofs.Common.{◌≡◌, length, ◌≤◌, ap, subst, ◌∙◌}
 use Rattle.std.specs.Prelude.{List, get_or, ◌-◌}
 use Rattle.hessian_graph.specs.declared.value.Value.{Value}
 use Rattle.hessian_graph.specs.declared.parts.Parts.{Parts}

@@ -1,4 +1,3 @@
-use Rattle.std.proofs.Common.{sym, subst}
 use Rattle.hessian_graph.specs.Shape.{shape_of}
 use Rattle.dubbo_bodies.proofs.ReplyOutcome.{first_beside}
 use Rattle.dubbo_bodies.proofs.reply_reader.outcome.first_alone.Goals as goal

@@ -1,8 +1,3 @@
-use Rattle.std.proofs.Common.{◌≡◌, ℕ, ◌<◌, suc, drop, ◌∷◌, List, refl, ap, sym, ◌∙◌, subst, arith}
-use Rattle.hessian_graph.specs.declared.value.Value.{Value}
-use Rattle.hessian_graph.specs.declared.value.Pair.{Pair}
-use Rattle.hessian_graph.specs.Shape.{alternately}
-use Rattle.dubbo_bodies.specs.ReplyKinds.{HasTextPairs, SameKeys}
 use Rattle.dubbo_bodies.proofs.ReplyOutcome.{keys_at, keys_stop, keys_end}
 use Rattle.dubbo_bodies.proofs.reply_reader.outcome.have_text_keys.Goals as goal
 

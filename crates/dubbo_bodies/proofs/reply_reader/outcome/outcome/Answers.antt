@@ -1,9 +1,4 @@
-use Rattle.std.proofs.Common.{sym, ap, subst, ◌≡◌, ◌∙◌}
-use Rattle.std.specs.Prelude.{IfErr, pos, ℤ}
-use Rattle.hessian_graph.specs.Shape.{Shape, shape_of}
-use Rattle.dubbo_bodies.specs.declared.message.Reply.TheVariants.{Value, Threw}
-use Rattle.dubbo_bodies.specs.ReplyBody.{Outcome}
-use Rattle.dubbo_bodies.specs.ReplyKinds.{LacksBeside, number_of}
+use Rattle.hessian_graph.specs.Shape.{shape_of}
 use Rattle.dubbo_bodies.proofs.ReplyOutcome.{an_exception, a_value, a_null, an_exception_beside, a_value_beside, lacks_exception, lacks_value, lacks_null}
 use Rattle.dubbo_bodies.proofs.reply_reader.outcome.outcome.Goals as goal
 

@@ -1,4 +1,4 @@
-use Rattle.std.proofs.Common.{◌≡◌, ◌≢◌, ℕ, ◌≤◌, sym, subst, ap, ◌∙◌, ◌++◌, arith, length}
+use Rattle.std.proofs.Common.{sym, subst, ◌++◌, arith}
 use Rattle.hessian_text.specs.Spelling.{AreBytes}
 use Rattle.hessian_text.specs.declared.step.Fed.TheVariants as told
 use Rattle.hessian_text.specs.Reader.{Feeds}

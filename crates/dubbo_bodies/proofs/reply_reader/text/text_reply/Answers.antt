@@ -1,4 +1,4 @@
-use Rattle.std.proofs.Common.{◌≡◌, true, sym, subst, ap, ◌∙◌}
+use Rattle.std.proofs.Common.{sym, subst, ap, ◌∙◌}
 use Rattle.hessian_reader.specs.Leaves.{hessian, node_limit}
 use Rattle.dubbo_bodies.specs.declared.message.Reply.TheVariants.{Status}
 use Rattle.dubbo_bodies.specs.ReplyBody.{ReplyOf}

@@ -1,4 +1,4 @@
-use Rattle.std.proofs.Common.{◌≡◌, List, ℕ, sym, ap, ◌∙◌, subst}
+use Rattle.std.proofs.Common.{◌≡◌, ap, ◌∙◌, subst}
 use Rattle.dubbo_bodies.specs.FedBody.{FedBody}
 use Rattle.dubbo_bodies.proofs.RequestBytes.{Completes, completes}
 use Rattle.dubbo_bodies.proofs.request_reader.RequestReader.finish.Goals as goal

@@ -1,4 +1,4 @@
-use Rattle.std.proofs.Common.{◌≡◌, ◌≢◌, ℕ, ◌+◌, List, [], ◌∷◌, ◌++◌, length, refl, sym, ap, subst, ◌∙◌, arith}
+use Rattle.std.proofs.Common.{◌≡◌, ◌≢◌, ◌+◌, [], ◌∷◌, ◌++◌, length, refl, sym, ap, subst, ◌∙◌, arith}
 use Rattle.hessian_graph.specs.Shape.{Text}
 use Rattle.hessian_reader.specs.Leaves.{hessian}
 use Rattle.dubbo_bodies.specs.declared.fault.RequestFault.TheVariants as faulty

@@ -1,9 +1,8 @@
-use Rattle.std.proofs.Common.{◌≡◌, List, ℕ, suc, [], ◌∷◌, ◌++◌, take, refl, sym, subst, ◌∙◌, arith, add-one}
-use Rattle.std.specs.Prelude.{Err, Result}
+use Rattle.std.proofs.Common.{◌≡◌, List, suc, [], take, refl, subst, ◌∙◌, arith, add-one}
+use Rattle.std.specs.Prelude.{Err}
 use Rattle.hessian_graph.specs.Shape.{Text}
 use Rattle.hessian_reader.specs.Leaves.{hessian}
 use Rattle.hessian_reader.specs.Reading.{HasRead}
-use Rattle.dubbo_bodies.specs.declared.fault.DescFault.{DescFault}
 use Rattle.dubbo_bodies.specs.Descriptor.{HasArgs, Tells}
 use Rattle.dubbo_bodies.specs.Fields.{DESCRIPTOR, BeginsWith}
 use Rattle.dubbo_bodies.proofs.FieldSteps.{desc_stays, desc_told}

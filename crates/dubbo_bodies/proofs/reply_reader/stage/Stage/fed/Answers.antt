@@ -1,5 +1,4 @@
-use Rattle.std.proofs.Common.{◌≡◌, ℕ, ◌<◌, true, false, length, sym, subst, ap, ◌∙◌, arith, ◌++◌}
-use Rattle.std.specs.Prelude.{◌==◌}
+use Rattle.std.proofs.Common.{length, sym, subst, ◌++◌}
 use Rattle.dubbo_bodies.specs.ReplyStages.{Stands, AtNull, StaysRefused}
 use Rattle.dubbo_bodies.proofs.ReplyAnswers.{stands_still, stays_later, is_none, is_some}
 use Rattle.dubbo_bodies.proofs.ReplyText.{behind_null_more}

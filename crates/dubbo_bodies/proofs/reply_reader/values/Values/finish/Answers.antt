@@ -1,7 +1,6 @@
-use Rattle.std.proofs.Common.{◌≡◌, ◌≢◌, ℕ, sym, subst, ap, ◌∙◌, arith, length}
+use Rattle.std.proofs.Common.{arith}
 use Rattle.hessian_graph.specs.Shape.{shape_of}
 use Rattle.hessian_graph.proofs.Closed.{closed_of}
-use Rattle.hessian_reader.specs.Leaves.{IsDenoted}
 use Rattle.dubbo_bodies.specs.ReplyKinds.{number_of}
 use Rattle.dubbo_bodies.proofs.Canonical.{denoted_is_canonical}
 use Rattle.dubbo_bodies.proofs.ReplyValues.{values_denoted, refused_as, values_answered, values_lack}

@@ -1,12 +1,8 @@
-use Rattle.std.proofs.Common.{◌≡◌, ℕ, ◌+◌, ◌-◌, ◌≤◌, List, ◌++◌, length, take, refl, sym, ap, subst, ◌∙◌, arith}
-use Rattle.std.specs.Prelude.{slice_index}
+use Rattle.std.proofs.Common.{◌≡◌, ◌+◌, ◌-◌, ◌++◌, length, take, refl, sym, ap, subst, ◌∙◌, arith}
 use Rattle.std.proofs.lemmas.List.{take_all}
-use Rattle.hessian_text.specs.declared.step.Fed.TheVariants as taken
 use Rattle.hessian_text.specs.Reader.{Feeds}
 use Rattle.hessian_text.specs.Spelling.{AreBytes}
-use Rattle.hessian_reader.specs.declared.fault.HessianFault.TheVariants as told
 use Rattle.dubbo_bodies.specs.declared.request_reader.fields.FieldPart.{FieldPart}
-use Rattle.dubbo_bodies.specs.declared.request_reader.progress.Progress.TheVariants.{Refused}
 use Rattle.dubbo_bodies.specs.RequestStages.{InFields, Stands}
 use Rattle.dubbo_bodies.proofs.FieldArms.{fields_go_on, text_ends, code_first, code_inside, item_inside}
 use Rattle.dubbo_bodies.proofs.request_reader.fields.FieldPart.step.Goals as goal

@@ -1,4 +1,4 @@
-use Rattle.std.proofs.Common.{◌≡◌, ◌≢◌, ◌≤◌, ℕ, length, arith}
+use Rattle.std.proofs.Common.{◌≡◌, ◌≢◌, ◌≤◌, length, arith}
 use Rattle.hessian_graph.specs.Shape.{shape_of}
 use Rattle.hessian_reader.specs.Leaves.{hessian, node_limit}
 use Rattle.dubbo_bodies.specs.declared.fault.RequestFault.TheVariants as faulty

@@ -1,7 +1,6 @@
-use Rattle.std.proofs.Common.{◌≡◌, ℕ, ◌+◌, ◌≤◌, List, ◌++◌, length, refl, sym, subst, ◌∙◌, arith, length-append}
+use Rattle.std.proofs.Common.{◌≡◌, ℕ, ◌+◌, ◌≤◌, ◌++◌, length, refl, sym, subst, ◌∙◌, arith, length-append}
 use Rattle.hessian_reader.specs.declared.reader.Fed.TheVariants as done
-use Rattle.hessian_reader.specs.declared.reader.Fed.{Fed}
-use Rattle.hessian_reader.specs.Reading.{HasRead, Tells}
+use Rattle.hessian_reader.specs.Reading.{Tells}
 use Rattle.dubbo_bodies.specs.declared.request_reader.values.ValuePart.{ValuePart}
 use Rattle.dubbo_bodies.proofs.FaultPlaces.{named_behind, memory_named}
 use Rattle.dubbo_bodies.proofs.ValueArms.{values_stop, values_trail, values_go_on}
