@@ -30,3 +30,4 @@ pub mod Printing
 pub mod OneText
 pub mod Rereading
 pub mod OneNotation
+pub mod Appends

@@ -13,3 +13,4 @@ pub mod Progress
 pub mod Built
 pub mod Naming
 pub mod Pressing
+pub mod Appending

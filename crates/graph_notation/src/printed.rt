@@ -1,10 +1,11 @@
 //! The one token that is written for an element.
 
-ghost use Rattle.std.specs.Prelude.{◌≡◌, ℕ, List, ◌+◌, ◌*◌, ◌<◌, ◌≤◌, ◌∷◌, ◌++◌, [], ◌-◌, ◌^◌, All, FitsSigned, OnOk, IfOk, decimal, length, take, drop, get_or, true};
+ghost use Rattle.std.specs.Prelude.{◌≡◌, ℕ, List, ◌+◌, ◌*◌, ◌<◌, ◌≤◌, ◌∷◌, ◌++◌, [], ◌-◌, ◌^◌, All, FitsSigned, OnOk, OnErr, IfOk, decimal, length, take, drop, get_or, true};
 ghost use Rattle.std.specs.Fmt.{signed_decimal};
 ghost use Rattle.std.specs.List.{flat_map};
 ghost use Rattle.std.specs.Int.{w32, w64};
 ghost use Rattle.std.specs.Str.{IsUtf8};
+ghost use Rattle.graph_notation.specs.Appending.{BeginsWith};
 ghost use Rattle.graph_notation.specs.Notation.{IsSoundElement};
 ghost use Rattle.graph_notation.specs.Pressing.{IsOn, element_of};
 ghost use Rattle.graph_notation.specs.Elements.{mark_byte, hex_digit, hex_pair, short_hex, is_control, escaped, quoted, word_of};
@@ -122,7 +123,8 @@ fn write_pairs(out: &mut Vec<u8>, bytes: &[u8]) -> Result<(), AllocError>
 
 /// Appends a byte of a text that doesn't stand for itself.
 fn write_escaped(out: &mut Vec<u8>, byte: u8) -> Result<(), AllocError>
-    ensures { OnOk result (out.new.items ≡ out.old.items ++ escaped byte) }
+    ensures written { OnOk result (out.new.items ≡ out.old.items ++ escaped byte) }
+    ensures err { OnErr result (out.new.items ≡ out.old.items) }
 {
     if byte == b'"' {
         out.extend_from_slice(b"\\\"")?;
@@ -164,7 +166,8 @@ fn all_stand(block: &[u8]) -> bool
 fn write_run(out: &mut Vec<u8>, text: &[u8], from: usize, at: usize) -> Result<(), AllocError>
     requires from { from ≤ at }
     requires at { at < length text.now }
-    ensures { OnOk result (out.new.items ≡ (out.old.items ++ take (at - from) (drop from text.now)) ++ escaped (get_or text.now at 0)) }
+    ensures written { OnOk result (out.new.items ≡ (out.old.items ++ take (at - from) (drop from text.now)) ++ escaped (get_or text.now at 0)) }
+    ensures begins { BeginsWith out.old.items out.new.items }
 {
     out.extend_from_slice(&text[from..at])?;
     write_escaped(out, text[at])
@@ -177,6 +180,7 @@ fn go_past(out: &mut Vec<u8>, text: &[u8], from: usize, at: usize) -> Result<usi
     ensures low { IfOk result (λ next. next ≤ at + 1) }
     ensures written { IfOk result (λ next. out.new.items ++ take (at + 1 - next) (drop next text.now)
         ≡ (out.old.items ++ take (at - from) (drop from text.now)) ++ escaped (get_or text.now at 0)) }
+    ensures begins { BeginsWith out.old.items out.new.items }
 {
     if flaw(text[at]) == 0 {
         Ok(from)
@@ -202,6 +206,7 @@ fn go_through(
     ensures low { IfOk result (λ next. next ≤ end) }
     ensures written { (before : List ℕ) → IsOn before text.now out.old.items first start
         → IfOk result (λ next. IsOn before text.now out.new.items next end) }
+    ensures begins { BeginsWith out.old.items out.new.items }
 {
     let mut from = first;
     for at in start..end {
@@ -224,6 +229,7 @@ fn go_past_block(
     ensures low { IfOk result (λ next. next ≤ end) }
     ensures written { (before : List ℕ) → IsOn before text.now out.old.items first start
         → IfOk result (λ next. IsOn before text.now out.new.items next end) }
+    ensures begins { BeginsWith out.old.items out.new.items }
 {
     if all_stand(&text[start..end]) {
         Ok(first)
@@ -234,7 +240,8 @@ fn go_past_block(
 
 /// Appends the content of a text: runs of bytes that stand for themselves, and the others one by one.
 fn write_content(out: &mut Vec<u8>, text: &[u8]) -> Result<(), AllocError>
-    ensures { OnOk result (out.new.items ≡ out.old.items ++ flat_map escaped text.now) }
+    ensures written { OnOk result (out.new.items ≡ out.old.items ++ flat_map escaped text.now) }
+    ensures begins { BeginsWith out.old.items out.new.items }
 {
     let mut from = 0;
     let mut at = 0;
@@ -247,15 +254,31 @@ fn write_content(out: &mut Vec<u8>, text: &[u8]) -> Result<(), AllocError>
     Ok(())
 }
 
+/// Appends a text in quotes.
+fn write_quoted(out: &mut Vec<u8>, text: &[u8]) -> Result<(), AllocError>
+    ensures written { OnOk result (out.new.items ≡ out.old.items ++ quoted text.now) }
+    ensures begins { BeginsWith out.old.items out.new.items }
+{
+    out.push(b'"')?;
+    write_content(out, text)?;
+    out.push(b'"')?;
+    Ok(())
+}
+
 /// Appends a text as it stands in a notation: in quotes, with its quotes, backslashes and control characters escaped.
+///
+/// After a refusal `out` is unchanged.
 pub fn write_text(out: &mut Vec<u8>, text: &str) -> Result<(), AllocError>
     ensures fits { IsUtf8 text.now }
     ensures written { OnOk result (out.new.items ≡ out.old.items ++ quoted text.now) }
+    ensures err { OnErr result (out.new.items ≡ out.old.items) }
 {
-    out.push(b'"')?;
-    write_content(out, text.as_bytes())?;
-    out.push(b'"')?;
-    Ok(())
+    let before = out.len();
+    let outcome = write_quoted(out, text.as_bytes());
+    if outcome.is_err() {
+        out.truncate(before);
+    }
+    outcome
 }
 
 /// Appends a value that is no node, or the number of a node that has begun.
