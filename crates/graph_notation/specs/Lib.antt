@@ -14,3 +14,4 @@ pub mod Built
 pub mod Naming
 pub mod Pressing
 pub mod Appending
+pub mod Limit

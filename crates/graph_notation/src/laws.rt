@@ -4,15 +4,15 @@ ghost use Rattle.std.specs.Prelude.{◌≡◌, ◌≤◌, ◌↔◌, ℕ, List, 
 ghost use Rattle.hessian_graph.specs.Shape.{Shape, shape_of};
 ghost use Rattle.hessian_graph.specs.Canon.{IsCanon};
 ghost use Rattle.graph_notation.specs.declared.fault.NotationFault.{NotationFault};
+ghost use Rattle.graph_notation.specs.Limit.{node_limit};
 ghost use Rattle.graph_notation.specs.Notation.{IsNotation, IsPrinted};
 ghost use Rattle.graph_notation.specs.Refusal.{Refusal};
 
-use crate::fault::NODE_LIMIT;
 use hessian_graph::Graph;
 
-/// No text is both refused and a notation of a graph with at most `NODE_LIMIT` nodes.
+/// No text is both refused and a notation of a graph with at most 1,000,000 nodes.
 pub fn is_read_or_refused(text: &[u8])
-    ensures { (g : Shape) (fault : NotationFault) → IsNotation text.now g → length g.nodes ≤ NODE_LIMIT → Refusal NODE_LIMIT text.now fault → ⊥ }
+    ensures { (g : Shape) (fault : NotationFault) → IsNotation text.now g → length g.nodes ≤ node_limit → Refusal node_limit text.now fault → ⊥ }
 {
     let _length = text.len();
 }

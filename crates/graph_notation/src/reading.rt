@@ -9,6 +9,7 @@ ghost use Rattle.hessian_graph.specs.InUse.{InOrderOfUse};
 ghost use Rattle.graph_notation.specs.declared.fault.NotationFault.TheVariants.{OutOfMemory};
 ghost use Rattle.graph_notation.specs.Elements.{mark_byte};
 ghost use Rattle.graph_notation.specs.Lexing.{token_length};
+ghost use Rattle.graph_notation.specs.Limit.{node_limit};
 ghost use Rattle.graph_notation.specs.Machine.{is_whole};
 ghost use Rattle.graph_notation.specs.Notation.{IsNotation};
 ghost use Rattle.graph_notation.specs.Progress.{SoFar, ReadsOn, StoppedAt, fault_of};
@@ -56,8 +57,8 @@ fn read_token(
 ) -> Result<usize, NotationFault>
     requires within { at < length text.now }
     requires fine { Fine reader.old }
-    requires limit { reader.old.limit ≡ NODE_LIMIT }
-    ensures read { ReadsOn NODE_LIMIT text.now at (state_of reader.old) (state_of reader.new) result }
+    requires limit { reader.old.limit ≡ node_limit }
+    ensures read { ReadsOn node_limit text.now at (state_of reader.old) (state_of reader.new) result }
     ensures fine { OnOk result (Fine reader.new) }
     ensures limit { reader.new.limit ≡ reader.old.limit }
 {
@@ -76,8 +77,8 @@ fn read_other(
 ) -> Result<usize, NotationFault>
     requires within { at < length text.now }
     requires fine { Fine reader.old }
-    requires limit { reader.old.limit ≡ NODE_LIMIT }
-    ensures read { ReadsOn NODE_LIMIT text.now at (state_of reader.old) (state_of reader.new) result }
+    requires limit { reader.old.limit ≡ node_limit }
+    ensures read { ReadsOn node_limit text.now at (state_of reader.old) (state_of reader.new) result }
     ensures fine { OnOk result (Fine reader.new) }
     ensures limit { reader.new.limit ≡ reader.old.limit }
 {
@@ -100,8 +101,8 @@ fn read_number(
     requires fits { FitsSigned w32 short.number }
     requires number { take (short.end - at) (drop at text.now) ≡ signed_decimal short.number }
     requires fine { Fine reader.old }
-    requires limit { reader.old.limit ≡ NODE_LIMIT }
-    ensures read { ReadsOn NODE_LIMIT text.now at (state_of reader.old) (state_of reader.new) result }
+    requires limit { reader.old.limit ≡ node_limit }
+    ensures read { ReadsOn node_limit text.now at (state_of reader.old) (state_of reader.new) result }
     ensures fine { OnOk result (Fine reader.new) }
     ensures limit { reader.new.limit ≡ reader.old.limit }
 {
@@ -122,8 +123,8 @@ fn read_mark(
     requires within { at < length text.now }
     requires here { get_or text.now at 0 ≡ mark_byte mark }
     requires fine { Fine reader.old }
-    requires limit { reader.old.limit ≡ NODE_LIMIT }
-    ensures read { ReadsOn NODE_LIMIT text.now at (state_of reader.old) (state_of reader.new) result }
+    requires limit { reader.old.limit ≡ node_limit }
+    ensures read { ReadsOn node_limit text.now at (state_of reader.old) (state_of reader.new) result }
     ensures fine { OnOk result (Fine reader.new) }
     ensures limit { reader.new.limit ≡ reader.old.limit }
 {
@@ -142,8 +143,8 @@ fn read_longer(
 ) -> Result<usize, NotationFault>
     requires within { at < length text.now }
     requires fine { Fine reader.old }
-    requires limit { reader.old.limit ≡ NODE_LIMIT }
-    ensures read { ReadsOn NODE_LIMIT text.now at (state_of reader.old) (state_of reader.new) result }
+    requires limit { reader.old.limit ≡ node_limit }
+    ensures read { ReadsOn node_limit text.now at (state_of reader.old) (state_of reader.new) result }
     ensures fine { OnOk result (Fine reader.new) }
     ensures limit { reader.new.limit ≡ reader.old.limit }
 {
@@ -159,9 +160,9 @@ fn read_longer(
 
 /// Reads all tokens.
 fn read_tokens(alloc: Global, text: &[u8]) -> Result<Reader, NotationFault>
-    ensures read { IfOk result (λ reader. SoFar NODE_LIMIT text.now [] (state_of reader)) }
+    ensures read { IfOk result (λ reader. SoFar node_limit text.now [] (state_of reader)) }
     ensures fine { IfOk result Fine }
-    ensures stopped { IfErr result (StoppedAt NODE_LIMIT text.now) }
+    ensures stopped { IfErr result (StoppedAt node_limit text.now) }
 {
     let mut reader = Reader::new(alloc, NODE_LIMIT);
     let mut at = 0;
@@ -175,10 +176,10 @@ fn read_tokens(alloc: Global, text: &[u8]) -> Result<Reader, NotationFault>
 ///
 /// The graph is canonical. Where several refusals are possible, the one with the least place is answered.
 pub fn read_notation(alloc: Global, text: &[u8]) -> Result<Graph, NotationFault>
-    ensures ok { IfOk result (λ g. IsNotation text.now (shape_of g) × (length (shape_of g).nodes ≤ NODE_LIMIT)) }
+    ensures ok { IfOk result (λ g. IsNotation text.now (shape_of g) × (length (shape_of g).nodes ≤ node_limit)) }
     ensures canonical { IfOk result (λ g. IsCanon (shape_of g) (shape_of g)) }
     ensures tables { IfOk result InOrderOfUse }
-    ensures refused { IfErr result (λ f. f ≢ OutOfMemory → Refusal NODE_LIMIT text.now f) }
+    ensures refused { IfErr result (λ f. f ≢ OutOfMemory → Refusal node_limit text.now f) }
 {
     match read_tokens(alloc, text) {
         Ok(reader) => finish(alloc, text, reader),
@@ -188,12 +189,12 @@ pub fn read_notation(alloc: Global, text: &[u8]) -> Result<Graph, NotationFault>
 
 /// The graph of a text that was read to its end, where the text may end there.
 fn finish(alloc: Global, text: &[u8], reader: Reader) -> Result<Graph, NotationFault>
-    requires read { SoFar NODE_LIMIT text.now [] (state_of reader) }
+    requires read { SoFar node_limit text.now [] (state_of reader) }
     requires fine { Fine reader }
-    ensures ok { IfOk result (λ g. IsNotation text.now (shape_of g) × (length (shape_of g).nodes ≤ NODE_LIMIT)) }
+    ensures ok { IfOk result (λ g. IsNotation text.now (shape_of g) × (length (shape_of g).nodes ≤ node_limit)) }
     ensures canonical { IfOk result (λ g. IsCanon (shape_of g) (shape_of g)) }
     ensures tables { IfOk result InOrderOfUse }
-    ensures refused { IfErr result (λ f. f ≢ OutOfMemory → Refusal NODE_LIMIT text.now f) }
+    ensures refused { IfErr result (λ f. f ≢ OutOfMemory → Refusal node_limit text.now f) }
 {
     if reader.is_whole() {
         let graph = graph_of(alloc, reader)?;
