@@ -31,3 +31,4 @@ pub mod OneText
 pub mod Rereading
 pub mod OneNotation
 pub mod Appends
+pub mod OneRefusal

@@ -154,7 +154,7 @@ stopped bound text fault x never = by_cause x.untaken refl
     by_cause no_memory e = absurd (never (sym e))
 
 -- No text is both a notation and refused.
-cut_on : {text rest : List ℕ} {tokens : List Token} (s after : List ℕ) (token : Token) (others : List Token) → Cut text tokens rest → rest ≡ token ++ after → IsToken token after → s ≡ text → Cut s others [] → (more : List Token) × (others ≡ tokens ++ token ∷ more)
+pub cut_on : {text rest : List ℕ} {tokens : List Token} (s after : List ℕ) (token : Token) (others : List Token) → Cut text tokens rest → rest ≡ token ++ after → IsToken token after → s ≡ text → Cut s others [] → (more : List Token) × (others ≡ tokens ++ token ∷ more)
 cut_on s after token others (none text) e x same c = by_cut c refl (same ∙ e)
   where
     by_cut : {t r : List ℕ} {ts : List Token} → Cut t ts r → r ≡ [] → t ≡ token ++ after → (more : List Token) × (ts ≡ token ∷ more)
@@ -172,7 +172,7 @@ cut_on s after token others (one token' middle rest tokens x' c') e x same c = b
         let b : us ≡ tokens ++ token ∷ z.0 = z.1 in
         (z.0, (cc))
 
-zip_on : (tokens : List Token) (es : List Element) (token : Token) (more : List Token) (fs : List Element) → ReadAs tokens es → ReadAs (tokens ++ token ∷ more) fs → (e : Element) × (gs : List Element) × Reads token e × (fs ≡ es ++ e ∷ gs)
+pub zip_on : (tokens : List Token) (es : List Element) (token : Token) (more : List Token) (fs : List Element) → ReadAs tokens es → ReadAs (tokens ++ token ∷ more) fs → (e : Element) × (gs : List Element) × Reads token e × (fs ≡ es ++ e ∷ gs)
 zip_on [] [] token more [] a b = absurd b
 zip_on [] [] token more (f ∷ fs) a b = (f, fs, b.0, refl)
 zip_on [] (e ∷ es) token more fs a b = absurd a
@@ -184,6 +184,12 @@ zip_on (t ∷ ts) (e ∷ es) token more (f ∷ fs) a b =
     let z : fs ≡ es ++ y.0 ∷ y.1 = y.3 in
     (y.0, y.1, y.2, (cc))
 
+-- no graph with at most so many nodes goes on with a refused token
+pub never_goes_on : (bound : ℕ) (before : List Element) {token : Token} {at : ℕ} {f : NotationFault} → Refused bound before token at f → (e : Element) → Reads token e → GoOn (before ++ e ∷ []) → GoOnWithin bound (before ++ e ∷ []) → ⊥
+never_goes_on bound before (misplaced never no_forward) e r on within = never e r on
+never_goes_on bound before (refused_unknown k f) e r on within = f.too_high (subst (λ v. GoOn (before ++ v ∷ [])) (one_element r f.reads) on)
+never_goes_on bound before (refused_many y q goes never) e r on within = never (subst (λ v. GoOnWithin bound (before ++ v ∷ [])) (one_element r q) within)
+
 pub read_or_refused : (bound : ℕ) (text : List ℕ) (g : Shape) (fault : NotationFault) → IsNotation text g → length g.nodes ≤ bound → Refusal bound text fault → ⊥
 read_or_refused bound text g fault n low (inl r) =
     let c = cut_on text r.rest r.token n.tokens r.cut refl r.next refl n.cut in
@@ -192,12 +198,7 @@ read_or_refused bound text g fault n low (inl r) =
     let sp : SpellsGraph g ((r.elements ++ e ∷ []) ++ z.1) = subst (SpellsGraph g) (z.3 ∙ sym (append_assoc r.elements (e ∷ []) z.1)) n.spelled in
     let on : GoOn (r.elements ++ e ∷ []) = record { more = z.1; graph = g; spelled = sp } in
     let within : GoOnWithin bound (r.elements ++ e ∷ []) = record { more = z.1; graph = g; spelled = sp; limit = low } in
-    by_kind r.refused e z.2 on within
-  where
-    by_kind : {before : List Element} {token : Token} {at : ℕ} {f : NotationFault} → Refused bound before token at f → (e : Element) → Reads token e → GoOn (before ++ e ∷ []) → GoOnWithin bound (before ++ e ∷ []) → ⊥
-    by_kind (misplaced never no_forward) e r on within = never e r on
-    by_kind {before} (refused_unknown k f) e r on within = f.too_high (subst (λ v. GoOn (before ++ v ∷ [])) (one_element r f.reads) on)
-    by_kind {before} (refused_many y q goes never) e r on within = never (subst (λ v. GoOnWithin bound (before ++ v ∷ [])) (one_element r q) within)
+    never_goes_on bound r.elements r.refused e z.2 on within
 read_or_refused bound text g fault n low (inr r) =
     let ts : n.tokens ≡ r.tokens = one_cut text r.tokens refl n.cut r.cut in
     let es : n.elements ≡ r.elements = one_reading r.tokens n.elements r.elements (subst (λ x. ReadAs x n.elements) ts n.read) r.read in

@@ -17,6 +17,13 @@ pub fn is_read_or_refused(text: &[u8])
     let _length = text.len();
 }
 
+/// A text has at most one refusal.
+pub fn has_one_refusal(text: &[u8])
+    ensures { (one other : NotationFault) → Refusal node_limit text.now one → Refusal node_limit text.now other → one ≡ other }
+{
+    let _length = text.len();
+}
+
 /// A text is a notation of at most one graph.
 pub fn has_one_graph(text: &[u8])
     ensures { (g h : Shape) → IsNotation text.now g → IsNotation text.now h → g ≡ h }
