@@ -5,12 +5,13 @@ use Rattle.std.proofs.lemmas.List.{same_from_push}
 use Rattle.hessian_graph.specs.Shape.{Shape}
 use Rattle.hessian_graph.specs.Forms.{Written}
 use Rattle.hessian_writer.specs.Leaves.{hessian, hessian_forms}
+use Rattle.graph_notation.specs.Limit.{node_limit}
 use Rattle.graph_notation.specs.Notation.{IsNotation}
 use Rattle.graph_notation.specs.Refusal.{Refusal}
 use Rattle.graph_notation.proofs.Verdict.{read_or_refused}
 use Rattle.graph_notation.specs.declared.fault.NotationFault.{NotationFault}
 use Rattle.graph_notation.specs.declared.fault.NotationFault.TheVariants.{OutOfMemory}
-use Rattle.dubbo_main.specs.Encoding.{EncodeAnswers, IsEncoded, IsNoNotation, IsTextOf, node_limit}
+use Rattle.dubbo_main.specs.Encoding.{EncodeAnswers, IsEncoded, IsNoNotation, IsTextOf}
 use Rattle.dubbo_main.specs.Encoding.EncodeAnswers.{encoded, damaged}
 use Rattle.dubbo_main.specs.FaultTexts.{damage_line, notation_text}
 use Rattle.dubbo_main.specs.PlainCommands.{status_of, text_of}

@@ -10,7 +10,7 @@ use Rattle.dubbo_main.specs.Statuses.{Comes}
 use Rattle.dubbo_main.specs.Generating.{IsGenerated}
 use Rattle.dubbo_main.specs.PlainCommands.{Answers, ReadsInput}
 use Rattle.dubbo_main.specs.PlainStatuses.{PlainCallsFor, WritesAnswer, WritesGenerated}
-use Rattle.dubbo_main.specs.PlainStatuses.PlainCallsFor.{answered, generated, no_reading, input_failed, no_memory, too_long}
+use Rattle.dubbo_main.specs.PlainStatuses.PlainCallsFor.{answered, generated, no_reading, input_failed, no_memory, no_memory_made, too_long}
 use Rattle.dubbo_main.specs.declared.words.PlainCommand.{PlainCommand}
 use Rattle.dubbo_main.specs.declared.words.PlainCommand.TheVariants.{Decode, Direct, Encode, Frames, Gen, Ring}
 use Rattle.dubbo_main.specs.declared.words.Show.{Show}
@@ -35,9 +35,11 @@ answers_once Ring bytes status status' text text' one other = ring_once [] 1 (li
 one_status : {Badge : Type 0} (words : List (List ℕ)) (old new : SourceState Badge) (status other : ℕ) (text others_text : List ℕ) → IsSome old.given → status ≢ 3 → status ≢ 6
     → PlainCallsFor words old new status text → PlainCallsFor words old new other others_text → IsThisOr3Or6 other status
 one_status words old new _ _ _ _ told not_3 not_6 (input_failed _ _ _ _ _) _ = absurd (not_3 refl)
-one_status words old new _ _ _ _ told not_3 not_6 (no_memory _ _ _) _ = absurd (not_6 refl)
+one_status words old new _ _ _ _ told not_3 not_6 (no_memory _ _ _ _) _ = absurd (not_6 refl)
+one_status words old new _ _ _ _ told not_3 not_6 (no_memory_made _ _ _ _) _ = absurd (not_6 refl)
 one_status words old new _ _ _ _ told not_3 not_6 _ (input_failed _ _ _ _ _) = inr (inl refl)
-one_status words old new _ _ _ _ told not_3 not_6 _ (no_memory _ _ _) = inr (inr refl)
+one_status words old new _ _ _ _ told not_3 not_6 _ (no_memory _ _ _ _) = inr (inr refl)
+one_status words old new _ _ _ _ told not_3 not_6 _ (no_memory_made _ _ _ _) = inr (inr refl)
 one_status words old new _ _ _ _ told not_3 not_6 (no_reading _ _) (no_reading _ _) = inl refl
 one_status words old new _ _ _ _ told not_3 not_6 (too_long _ _ _ _) (too_long _ _ _ _) = inl refl
 one_status words old new _ _ _ _ told not_3 not_6 (no_reading none _) (answered command _ _ _ names _ _) = absurd (none command names)
@@ -81,7 +83,8 @@ answer_of words command old new _ _ names reads is (answered command' bytes stat
 answer_of words command old new _ _ names reads is (generated calls show _ names' _ _) = absurd (subst ReadsInput (names_once words command (Gen calls show) names names') reads)
 answer_of words command old new _ _ names reads is (no_reading none _) = absurd (none command names)
 answer_of words command old new _ _ names reads is (input_failed _ _ _ _ _) = absurd (other_than 3 (λ e. omega (arith, e)) (λ e. omega (arith, e)) (λ e. omega (arith, e)) is)
-answer_of words command old new _ _ names reads is (no_memory _ _ _) = absurd (other_than 6 (λ e. omega (arith, e)) (λ e. omega (arith, e)) (λ e. omega (arith, e)) is)
+answer_of words command old new _ _ names reads is (no_memory _ _ _ _) = absurd (other_than 6 (λ e. omega (arith, e)) (λ e. omega (arith, e)) (λ e. omega (arith, e)) is)
+answer_of words command old new _ _ names reads is (no_memory_made _ _ _ _) = absurd (other_than 6 (λ e. omega (arith, e)) (λ e. omega (arith, e)) (λ e. omega (arith, e)) is)
 answer_of words command old new _ _ names reads is (too_long _ _ _ _) = absurd (other_than 7 (λ e. omega (arith, e)) (λ e. omega (arith, e)) (λ e. omega (arith, e)) is)
 
 -- what a run writes at 0, 2 and 8
@@ -112,7 +115,8 @@ made_of words calls show old new _ _ names is (generated calls' show' text names
     (same, subst (λ c. Makes c text) (names_once words (Gen calls' show') (Gen calls show) names' names) made)
 made_of words calls show old new _ _ names is (no_reading none _) = absurd (none (Gen calls show) names)
 made_of words calls show old new _ _ names is (input_failed _ _ _ _ _) = absurd (omega (arith, is))
-made_of words calls show old new _ _ names is (no_memory _ _ _) = absurd (omega (arith, is))
+made_of words calls show old new _ _ names is (no_memory _ _ _ _) = absurd (omega (arith, is))
+made_of words calls show old new _ _ names is (no_memory_made _ _ _ _) = absurd (omega (arith, is))
 made_of words calls show old new _ _ names is (too_long _ _ _ _) = absurd (omega (arith, is))
 
 -- what a run of `gen` writes at 0

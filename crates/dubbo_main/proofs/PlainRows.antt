@@ -1,9 +1,8 @@
 -- Which row of the statuses what a plain command met is.
-use Rattle.std.proofs.Common.{ℕ, List, [], Result, Ok, Err, Vec, Global, refl, arith}
+use Rattle.std.proofs.Common.{ℕ, List, Result, Ok, Err, Vec, Global, refl}
 use Rattle.std.specs.Prelude.{IfOk, MatchResult}
-use Rattle.dubbo_io.specs.Source.{SourceState, GaveAtMost}
+use Rattle.dubbo_io.specs.Source.{SourceState}
 use Rattle.dubbo_io.specs.Sink.{SinkState}
-use Rattle.dubbo_io.proofs.Going.{GoesOn-none}
 use Rattle.dubbo_io.specs.ReadFault.{StopsReading}
 use Rattle.dubbo_io.specs.declared.reading.ReadFault.{ReadFault}
 use Rattle.dubbo_io.specs.declared.reading.ReadFault.TheVariants.{Fault, TooLong, OutOfMemory}
@@ -14,7 +13,7 @@ use Rattle.dubbo_main.specs.Statuses.{Comes, Ends}
 use Rattle.dubbo_main.specs.Generating.{IsGenerated}
 use Rattle.dubbo_main.specs.PlainCommands.{Answers, ReadsInput, status_of, text_of}
 use Rattle.dubbo_main.specs.PlainStatuses.{PlainCallsFor}
-use Rattle.dubbo_main.specs.PlainStatuses.PlainCallsFor.{answered, generated, input_failed, no_memory, too_long}
+use Rattle.dubbo_main.specs.PlainStatuses.PlainCallsFor.{answered, generated, input_failed, no_memory, no_memory_made, too_long}
 use Rattle.dubbo_main.specs.Unread.{unread_status, unread_line}
 use Rattle.dubbo_main.specs.declared.words.PlainCommand.{PlainCommand}
 use Rattle.dubbo_main.specs.declared.words.PlainCommand.TheVariants.{Gen}
@@ -27,21 +26,17 @@ pub PlainCallsFor-unread : {Badge : Type 0} (words : List (List ℕ)) (command :
 PlainCallsFor-unread words command old new (Fault faults) names reads stops =
     input_failed command faults names reads (record { within = stops.0; rose = stops.1; some = stops.2; told = stops.3 })
 PlainCallsFor-unread words command old new (TooLong limit) names reads stops = too_long command names reads stops.1
-PlainCallsFor-unread words command old new OutOfMemory names reads stops = no_memory command names stops
+PlainCallsFor-unread words command old new OutOfMemory names reads stops = no_memory command names reads stops
 
 -- a run over a whole input comes to the status of the command's answer, or has no memory
 pub Comes-answer : {B C E : Type 0} (words : List (List ℕ)) (command : PlainCommand) (old new : SourceState B) (before now : SinkState C) (bytes : List ℕ) (answer : Result Answer E) (result : ℕ)
-    → Names words command → IsWhole old new bytes → IfOk answer (λ a. Answers command bytes (status_of a) (text_of a))
+    → Names words command → ReadsInput command → IsWhole old new bytes → IfOk answer (λ a. Answers command bytes (status_of a) (text_of a))
     → MatchResult answer (λ a. Ends before now (status_of a) (text_of a) result) (λ e. Ends before now 6 memory_line result)
     → Comes (PlainCallsFor words old new) before now result
-Comes-answer words command old new before now bytes (Ok a) result names whole answers ends =
+Comes-answer words command old new before now bytes (Ok a) result names reads whole answers ends =
     (status_of a, text_of a, answered command bytes (status_of a) (text_of a) names whole answers, ends)
-Comes-answer words command old new before now bytes (Err e) result names whole answers ends =
-    (6, memory_line, no_memory command names (bytes, whole.goes_on, whole.within), ends)
-
--- a source that gave nothing
-gave_nothing : {Badge : Type 0} (state : SourceState Badge) → GaveAtMost state state input_limit
-gave_nothing state = ([], GoesOn-none state, omega arith)
+Comes-answer words command old new before now bytes (Err e) result names reads whole answers ends =
+    (6, memory_line, no_memory command names reads (bytes, whole.goes_on, whole.within), ends)
 
 -- a run that reads no input comes to what is made, or has no memory
 pub Comes-generated : {B C E : Type 0} (words : List (List ℕ)) (calls : ℕ) (show : Show) (state : SourceState B) (before now : SinkState C) (text : Result (Vec ℕ Global) E) (result : ℕ)
@@ -49,4 +44,4 @@ pub Comes-generated : {B C E : Type 0} (words : List (List ℕ)) (calls : ℕ) (
     → MatchResult text (λ t. Ends before now 0 t.items result) (λ e. Ends before now 6 memory_line result)
     → Comes (PlainCallsFor words state state) before now result
 Comes-generated words calls show state before now (Ok t) result names made ends = (0, t.items, generated calls show t.items names refl made, ends)
-Comes-generated words calls show state before now (Err e) result names made ends = (6, memory_line, no_memory (Gen calls show) names (gave_nothing state), ends)
+Comes-generated words calls show state before now (Err e) result names made ends = (6, memory_line, no_memory_made calls show names refl, ends)

@@ -3,14 +3,11 @@ use Rattle.std.specs.Prelude.{◌≡◌, ◌≢◌, ℕ, ◌≤◌, ◌⊎◌, �
 use Rattle.hessian_graph.specs.Shape.{Shape}
 use Rattle.hessian_graph.specs.Forms.{Written}
 use Rattle.hessian_writer.specs.Leaves.{hessian, hessian_forms}
+use Rattle.graph_notation.specs.Limit.{node_limit}
 use Rattle.graph_notation.specs.Notation.{IsNotation}
 use Rattle.graph_notation.specs.Refusal.{Refusal}
 use Rattle.graph_notation.specs.declared.fault.NotationFault.{NotationFault}
 use Rattle.dubbo_main.specs.FaultTexts.{damage_line, notation_text}
-
--- the most nodes that a notation may have
-abbrev pub node_limit : ℕ
-node_limit = 1000000
 
 -- the text of an input: what stands before the line end behind it, where it ends in one
 abbrev pub IsTextOf : List ℕ → List ℕ → Type 0

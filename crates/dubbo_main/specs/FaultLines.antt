@@ -10,7 +10,7 @@ words_line = codes "fault words\n"
 abbrev pub not_built_line : ℕ → List ℕ
 not_built_line line = codes "fault script " ++ decimal line ++ codes " not built\n"
 
--- the input failed so often
+-- the input failed, and this many of its faults are told
 abbrev pub input_line : ℕ → List ℕ
 input_line faults = codes "fault input " ++ decimal faults ++ codes "\n"
 

@@ -21,8 +21,10 @@ pub data PlainCallsFor {Badge : Type 0} (words : List (List ℕ)) (old new : Sou
   no_reading : HasNoReading words → new ≡ old → PlainCallsFor words old new 1 words_line
   input_failed : (command : PlainCommand) (faults : ℕ) → Names words command → ReadsInput command
       → InputFails old new faults → PlainCallsFor words old new 3 (input_line faults)
-  no_memory : (command : PlainCommand) → Names words command
+  no_memory : (command : PlainCommand) → Names words command → ReadsInput command
       → GaveAtMost old new input_limit → PlainCallsFor words old new 6 memory_line
+  no_memory_made : (calls : ℕ) (show : Show) → Names words (Gen calls show)
+      → new ≡ old → PlainCallsFor words old new 6 memory_line
   too_long : (command : PlainCommand) → Names words command → ReadsInput command
       → IsTooLong old new → PlainCallsFor words old new 7 too_long_line
 

@@ -51,7 +51,7 @@ fn refused(line: u32, cause: &str) -> NumberLine
     text
 }
 
-/// The line for an input that failed so often.
+/// The line for an input that failed, and of whose faults this many are told.
 pub fn input_failed(faults: u64) -> NumberLine
     ensures { result.bytes ≡ input_line faults }
 {

@@ -11,7 +11,7 @@ use thiserror::Error;
 /// Why a script is not played.
 #[derive(Clone, Copy, Debug, PartialEq, Eq, Error)]
 pub enum PlayFault {
-    /// The input failed, so often in this run.
+    /// The input failed, and this many of its faults are told.
     #[error("input {faults}")]
     Input { faults: u64 },
     /// The input has more bytes than an input may have.

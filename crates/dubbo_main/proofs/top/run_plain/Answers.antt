@@ -21,7 +21,7 @@ returns-in-Ok-clause-status g c =
       ended = c.in-Ok.ensures.end;
       within = omega (arith, c.in-Ok.ensures.within, c.in-Ok.bytes.ok.0);
     } in
-    Comes-answer _ c.in-Some.command _ _ _ _ c.deref.result.now c.answer_whole.result c.tell_answer.result c.in-Some.ensures
+    Comes-answer _ c.in-Some.command _ _ _ _ c.deref.result.now c.answer_whole.result c.tell_answer.result c.in-Some.ensures c.in_default-made_by.ensures
     (subst (λ bytes. IsWhole (g.I.Source.state c.args.input.now) (g.I.Source.state c.read_all.new.source) bytes) (sym c.deref.ensures.value) whole)
     c.answer_whole.ensures c.tell_answer.ensures
 
