@@ -22,7 +22,7 @@ pub enum ReadFault {
 }
 
 /// The most bytes that one read asks for.
-const PIECE: usize = 8192;
+const PIECE: usize = 65_536;
 
 /// Reads all that is left, of at most `limit` bytes.
 ///
