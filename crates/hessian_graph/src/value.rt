@@ -36,6 +36,18 @@ pub struct Pair {
     pub value: Value,
 }
 
+/// Adds a value to a full list, where so many values are to come, this one among them, or 0 where that isn't known.
+#[cold]
+fn push_full(values: &mut Vec<Value>, value: Value, to_come: usize) -> Result<(), AllocError>
+    ensures { values.new.items ≡ (if is_ok result then values.old.items ++ value ∷ [] else values.old.items) }
+{
+    let room = values.len().saturating_mul(3).min(to_come);
+    // Where so much isn't had, the push takes less.
+    let _ = values.reserve_exact(room);
+    values.push(value)?;
+    Ok(())
+}
+
 /// A list of values.
 #[derive(Drop)]
 pub struct Items {
@@ -83,14 +95,17 @@ impl Items {
     }
 
     /// Adds a value behind the others. Where there is no memory the values stay as they were.
+    ///
+    /// So many values are to come, this one among them, or 0 where that isn't known. A full list takes room for three times
+    /// as many as it has, but for no more than are to come; and for as many again where that isn't known.
     #[inline(always)]
-    pub fn push(&mut self, value: Value) -> Result<(), AllocError>
+    pub fn push(&mut self, value: Value, to_come: usize) -> Result<(), AllocError>
         ensures { self.new ≡ (if is_ok result then self.old ++ value ∷ [] else self.old) }
     {
         if self.inner.len() < self.inner.capacity() {
             self.inner.push_reserved(value);
         } else {
-            self.inner.push(value)?;
+            push_full(&mut self.inner, value, to_come)?;
         }
         Ok(())
     }

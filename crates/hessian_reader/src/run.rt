@@ -2,7 +2,7 @@
 
 ghost use Rattle.std.specs.Prelude.{◌≡◌, ◌≤◌, ◌<◌, length, slice_index, take, false, Some, IfOk, IfSome, OnOk};
 ghost use Rattle.hessian_reader.specs.Codes.{head_of};
-ghost use Rattle.hessian_reader.specs.States.{State, begins_node, is_done};
+ghost use Rattle.hessian_reader.specs.States.{State, Count, begins_node, is_done};
 ghost use Rattle.hessian_reader.specs.Steps.{Leads, head_step, node_step};
 ghost use Rattle.hessian_reader.specs.Views.{state_of};
 
@@ -146,8 +146,7 @@ impl Work {
                 if self.store.nodes.len() >= NODE_LIMIT {
                     return Ok(0);
                 }
-                self.begin_here(Lacks::Count(count), Sort::Object(class))?;
-                let more = self.known_values(&piece[1..])?;
+                let more = self.begin_with_values(count, Sort::Object(class), &piece[1..])?;
                 Ok(1 + more)
             }
             None => Ok(0),
@@ -173,6 +172,27 @@ impl Work {
                 Ok(1)
             }
             None => Ok(0),
+        }
+    }
+
+    /// Begins a node of so many values where a value may stand, and takes the first of them.
+    #[inline(always)]
+    fn begin_with_values(
+        &mut self,
+        count: usize,
+        sort: Sort,
+        piece: &[u8],
+    ) -> Result<usize, AllocError>
+        requires here { self.old.place ≡ Place.AtValue }
+        ensures within { IfOk result (λ used. used ≤ length piece.now) }
+        ensures place { IfOk result (λ used. self.new.place ≡ Place.AtValue) }
+        ensures leads { IfOk result (λ used. Leads (begins_node (Count count) sort (state_of self.old)) (take used piece.now) (state_of self.new)) }
+    {
+        if count == 0 {
+            self.begin_here(Lacks::Count(0), sort)?;
+            Ok(0)
+        } else {
+            self.store.begin_with_values(count, sort, piece)
         }
     }
 

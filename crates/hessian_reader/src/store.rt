@@ -1,9 +1,9 @@
 //! The values that came, and the nodes that are open.
 
-ghost use Rattle.std.specs.Prelude.{◌≡◌, ◌≤◌, [], length, take, OnOk, IfOk};
+ghost use Rattle.std.specs.Prelude.{◌≡◌, ◌<◌, ◌≤◌, [], length, take, OnOk, IfOk};
 ghost use Rattle.hessian_graph.specs.declared.value.Value.TheVariants.{Node};
 ghost use Rattle.hessian_reader.specs.Runs.{Gives};
-ghost use Rattle.hessian_reader.specs.States.{less_lacking, lacks_none, with_begun, with_node, with_value};
+ghost use Rattle.hessian_reader.specs.States.{Count, less_lacking, lacks_none, with_begun, with_node, with_value};
 ghost use Rattle.hessian_reader.specs.Views.{built_of, Builds};
 
 use crate::grow::push;
@@ -133,6 +133,7 @@ impl Store {
 
     /// Takes the leaves and references that lie whole at the front of a piece, where the innermost open node lacks a known
     /// number of values, and no more of them than it lacks. It answers how many bytes they are.
+    #[inline(always)]
     pub fn take_values(&mut self, piece: &[u8]) -> Result<usize, AllocError>
         ensures within { IfOk result (λ used. used ≤ length piece.now) }
         ensures gives { IfOk result (λ used. Gives (built_of self.old) (take used piece.now) (built_of self.new)) }
@@ -183,6 +184,34 @@ impl Store {
         self.give(Value::Node(node))?;
         self.begin_at(lacks, sort, node)?;
         Ok(())
+    }
+
+    /// Begins the next node, which lacks so many values, and takes of them the leaves and references that lie whole at the
+    /// front of a piece. It answers how many bytes they are.
+    #[inline(always)]
+    pub fn begin_with_values(
+        &mut self,
+        count: usize,
+        sort: Sort,
+        piece: &[u8],
+    ) -> Result<usize, AllocError>
+        requires { 0 < count }
+        ensures within { IfOk result (λ used. used ≤ length piece.now) }
+        ensures gives { IfOk result (λ used.
+            Gives (with_node (Count count) sort (built_of self.old)) (take used piece.now) (built_of self.new)) }
+    {
+        // There are never so many nodes that their numbers run out.
+        let Ok(node) = u32::try_from(self.nodes.len()) else {
+            return Err(AllocError);
+        };
+        self.give(Value::Node(node))?;
+        self.nodes.begin(self.alloc, node, sort)?;
+        let taken = self.nodes.push_values(self.alloc, node, piece, count)?;
+        if taken.values < count {
+            let lacks = Lacks::Count(count - taken.values);
+            push(&mut self.open_nodes, OpenNode { node, lacks })?;
+        }
+        Ok(taken.bytes)
     }
 
     /// Whether the last root has ended.

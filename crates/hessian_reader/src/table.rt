@@ -103,6 +103,7 @@ impl NodeTable {
     }
 
     /// Begins the next node, whose number this is.
+    #[inline(always)]
     pub fn begin(&mut self, alloc: Global, node: u32, sort: Sort) -> Result<(), AllocError>
         requires { node ≡ length self.old }
         ensures { OnOk result (self.new ≡ self.old ++ record { sort = sort; values = [] } ∷ []) }
@@ -125,6 +126,7 @@ impl NodeTable {
     }
 
     /// Adds a value to the node of this number, which still lacks so many where that is known.
+    #[inline(always)]
     pub fn push(&mut self, node: u32, value: Value, room: usize) -> Result<(), AllocError>
         ensures { OnOk result (self.new ≡ with_item self.old node value) }
     {
@@ -137,6 +139,7 @@ impl NodeTable {
 
     /// Adds to the node of this number the leaves and references that lie whole at the front of a piece, but no more than so
     /// many.
+    #[inline(always)]
     pub fn push_values(
         &mut self,
         alloc: Global,

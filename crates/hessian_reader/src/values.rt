@@ -52,17 +52,22 @@ pub fn push_value(values: &mut Items, value: Value, room: usize) -> Result<(), A
     ensures { OnOk result (values.new ≡ values.old ++ value ∷ []) }
 {
     make_room(values, room)?;
-    values.push(value)
+    values.push(value, room)
 }
 
-/// Adds the scalar that lies whole at the front of a piece, and answers behind how many bytes it ends.
+/// Adds the scalar that lies whole at the front of a piece, where so many values are to come with it, and answers behind
+/// how many bytes it ends.
 #[inline(always)]
-fn push_scalar(values: &mut Items, piece: &[u8]) -> Result<Option<usize>, AllocError>
+fn push_scalar(
+    values: &mut Items,
+    piece: &[u8],
+    to_come: usize,
+) -> Result<Option<usize>, AllocError>
     ensures { (nodes : ℕ) → IfOk result (AddsNext nodes values.old piece.now values.new) }
 {
     match scalar_at_once(piece) {
         Some((scalar, used)) => {
-            values.push(value_of(scalar))?;
+            values.push(value_of(scalar), to_come)?;
             Ok(Some(used))
         }
         None => Ok(None),
@@ -70,12 +75,17 @@ fn push_scalar(values: &mut Items, piece: &[u8]) -> Result<Option<usize>, AllocE
 }
 
 /// The same of a text.
-fn push_text(alloc: Global, values: &mut Items, piece: &[u8]) -> Result<Option<usize>, AllocError>
+fn push_text(
+    alloc: Global,
+    values: &mut Items,
+    piece: &[u8],
+    to_come: usize,
+) -> Result<Option<usize>, AllocError>
     ensures { (nodes : ℕ) → IfOk result (AddsNext nodes values.old piece.now values.new) }
 {
     match text_leaf(alloc, piece)? {
         Some((value, used)) => {
-            values.push(value)?;
+            values.push(value, to_come)?;
             Ok(Some(used))
         }
         None => Ok(None),
@@ -88,6 +98,7 @@ fn push_reference(
     values: &mut Items,
     piece: &[u8],
     nodes: usize,
+    to_come: usize,
 ) -> Result<Option<usize>, AllocError>
     requires some { 0 < length piece.now }
     requires code { slice_index piece.now 0 ≡ 0x51 }
@@ -95,28 +106,29 @@ fn push_reference(
 {
     match reference_at_once(piece, nodes) {
         Some((value, used)) => {
-            values.push(value)?;
+            values.push(value, to_come)?;
             Ok(Some(used))
         }
         None => Ok(None),
     }
 }
 
-/// Adds the leaf, or the reference to one of so many nodes, that lies whole at the front of a piece, and answers behind how
-/// many bytes it ends.
+/// Adds the leaf, or the reference to one of so many nodes, that lies whole at the front of a piece, where so many values are
+/// to come with it, and answers behind how many bytes it ends.
 #[inline(always)]
 fn push_next(
     alloc: Global,
     values: &mut Items,
     piece: &[u8],
     nodes: usize,
+    to_come: usize,
 ) -> Result<Option<usize>, AllocError>
     ensures { IfOk result (AddsNext nodes values.old piece.now values.new) }
 {
     match *piece {
-        [0x51, ..] => push_reference(values, piece, nodes),
-        [0x00..=0x1f | 0x30..=0x33, ..] => push_text(alloc, values, piece),
-        _ => push_scalar(values, piece),
+        [0x51, ..] => push_reference(values, piece, nodes, to_come),
+        [0x00..=0x1f | 0x30..=0x33, ..] => push_text(alloc, values, piece, to_come),
+        _ => push_scalar(values, piece, to_come),
     }
 }
 
@@ -135,7 +147,8 @@ pub fn push_values(
     let mut count = 0;
     let mut bytes = 0;
     while count < most {
-        let Some(used) = push_next(alloc, values, &piece[bytes..], nodes)? else {
+        let rest = &piece[bytes..];
+        let Some(used) = push_next(alloc, values, rest, nodes, most - count)? else {
             return Ok(Taken {
                 values: count,
                 bytes,

@@ -26,6 +26,7 @@ pub fn scalar_at_once(piece: &[u8]) -> Option<(Scalar, usize)>
 }
 
 /// The same, where no int lies whole there.
+#[inline(always)]
 fn long_at_once(piece: &[u8]) -> Option<(Scalar, usize)>
     ensures within { IfSome result (λ p. p.1 ≤ length piece.now) }
     ensures spells { IfSome result (λ p. ScalarSpelling p.0 (take p.1 piece.now)) }

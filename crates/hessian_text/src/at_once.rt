@@ -10,6 +10,7 @@ use crate::units::Measure;
 use std::alloc::{AllocError, Global};
 
 /// The head of one byte or two of a text's last chunk, and how many units it states.
+#[inline(always)]
 fn short_head(piece: &[u8]) -> Option<Measure>
     ensures within { IfSome result (λ head. head.len ≤ length piece.now) }
     ensures head { IfSome result (λ head.
@@ -37,6 +38,7 @@ fn short_head(piece: &[u8]) -> Option<Measure>
 ///
 /// Nothing is told only where no text in ASCII lies there whole, in one chunk with a head of one byte
 /// or two.
+#[inline(always)]
 pub fn text_at_once(alloc: Global, piece: &[u8]) -> Result<Option<(String, usize)>, AllocError>
     ensures within { IfOk result (λ found. IfSome found (λ p. p.1 ≤ length piece.now)) }
     ensures spells { IfOk result (λ found. IfSome found (λ p.
