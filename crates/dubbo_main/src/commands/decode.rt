@@ -13,25 +13,29 @@ use graph_notation::print_graph;
 use hessian_graph::Graph;
 use hessian_reader::{HessianFault, read_graph};
 use std::alloc::{AllocError, Global};
+use std::mem::forget;
 
 /// The notation of the graph of so many roots that the input denotes, and a line end.
 pub fn answer_decode(alloc: Global, input: &[u8], roots: u32) -> Result<Answer, AllocError>
     ensures { IfOk result (λ answer. DecodeAnswers roots input.now (status_of answer) (text_of answer)) }
 {
     match read_graph(alloc, input, roots) {
-        Ok(graph) => printed(alloc, &graph),
+        Ok(graph) => printed(alloc, graph),
         Err(fault) => refused(alloc, fault),
     }
 }
 
 /// The notation of a graph, and a line end.
-fn printed(alloc: Global, graph: &Graph) -> Result<Answer, AllocError>
+///
+/// The program ends with its answer and gives all memory back at once, so the graph isn't given back node by node.
+fn printed(alloc: Global, graph: Graph) -> Result<Answer, AllocError>
     ensures status { IfOk result (λ answer. status_of answer ≡ 0) }
-    ensures text { IfOk result (λ answer. (notation : List ℕ) × PrintsForm (shape_of graph.now) notation
+    ensures text { IfOk result (λ answer. (notation : List ℕ) × PrintsForm (shape_of graph) notation
         × (text_of answer ≡ notation ++ 10 ∷ [])) }
 {
-    let mut text = print_graph(alloc, graph)?;
+    let mut text = print_graph(alloc, &graph)?;
     text.push(b'\n')?;
+    forget(graph);
     Ok(Answer::Done(text))
 }
 

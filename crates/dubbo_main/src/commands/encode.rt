@@ -13,13 +13,14 @@ use graph_notation::{NotationFault, read_notation};
 use hessian_graph::Graph;
 use hessian_writer::{is_writable, write_graph};
 use std::alloc::{AllocError, Global};
+use std::mem::forget;
 
 /// The bytes of the graph that the input is the notation of, with or without one line end behind it.
 pub fn answer_encode(alloc: Global, input: &[u8]) -> Result<Answer, AllocError>
     ensures { IfOk result (λ answer. EncodeAnswers input.now (status_of answer) (text_of answer)) }
 {
     match read_notation(alloc, without_line_end(input)) {
-        Ok(graph) => written(alloc, &graph),
+        Ok(graph) => written(alloc, graph),
         Err(fault) => refused(alloc, fault),
     }
 }
@@ -37,14 +38,18 @@ fn without_line_end(input: &[u8]) -> &[u8]
 /// The bytes of a graph.
 ///
 /// An input is too short for a graph that can't be written, so the test only stands where no contract says so.
-fn written(alloc: Global, graph: &Graph) -> Result<Answer, AllocError>
+///
+/// The program ends with its answer and gives all memory back at once, so the graph isn't given back node by node.
+fn written(alloc: Global, graph: Graph) -> Result<Answer, AllocError>
     ensures status { IfOk result (λ answer. status_of answer ≡ 0) }
-    ensures bytes { IfOk result (λ answer. Written hessian hessian_forms (shape_of graph.now) (text_of answer)) }
+    ensures bytes { IfOk result (λ answer. Written hessian hessian_forms (shape_of graph) (text_of answer)) }
 {
-    if !is_writable(graph) {
+    if !is_writable(&graph) {
         return Err(AllocError);
     }
-    Ok(Answer::Done(write_graph(alloc, graph)?))
+    let bytes = write_graph(alloc, &graph)?;
+    forget(graph);
+    Ok(Answer::Done(bytes))
 }
 
 /// The answer to a text that is no notation.
