@@ -32,3 +32,4 @@ pub mod Rereading
 pub mod OneNotation
 pub mod Appends
 pub mod OneRefusal
+pub mod Preparing

@@ -15,3 +15,4 @@ pub mod Naming
 pub mod Pressing
 pub mod Appending
 pub mod Limit
+pub mod Preparing

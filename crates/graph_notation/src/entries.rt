@@ -1,20 +1,23 @@
 //! What stands before the values of a node, between them and behind them.
 
-ghost use Rattle.std.specs.Prelude.{◌≡◌, ◌<◌, ◌≤◌, [], ◌∷◌, length, get_or, OnOk, IfSome, IfNone};
-ghost use Rattle.hessian_graph.specs.Shape.{kind_of, type_of, values_of, no_class};
+ghost use Rattle.std.specs.Prelude.{◌≡◌, ◌<◌, ◌≤◌, List, [], ◌∷◌, length, get_or, OnOk, IfSome, IfNone};
+ghost use Rattle.hessian_graph.specs.Shape.{kind_of, type_of, values_of};
 ghost use Rattle.hessian_graph.specs.Moving.{NamesThere};
 ghost use Rattle.hessian_graph.specs.Tables.{NumberBelow};
 ghost use Rattle.hessian_graph.specs.declared.value.Value.TheVariants.{Null};
+ghost use Rattle.graph_notation.specs.declared.element.Element.{Element};
 ghost use Rattle.graph_notation.specs.declared.element.Element.TheVariants.{Sign, Words};
+ghost use Rattle.graph_notation.specs.Preparing.{HaveTexts};
 ghost use Rattle.graph_notation.specs.Pressing.{Prints, element_of, type_name, head_of, end_of, comma, before};
 
+use crate::class_texts::ClassTexts;
 use crate::element::Mark;
 use crate::printed::{byte_of, write_text, write_value};
-use hessian_graph::{Chars, Class, Node, Parts, Value};
+use hessian_graph::{Chars, Node, Octets, Parts, Value};
 use std::alloc::AllocError;
 
 /// Appends a mark.
-fn write_mark(out: &mut Vec<u8>, mark: Mark) -> Result<(), AllocError>
+pub fn write_mark(out: &mut Vec<u8>, mark: Mark) -> Result<(), AllocError>
     ensures { OnOk result (Prints out.old.items (Sign mark ∷ []) out.new.items) }
 {
     out.push(byte_of(mark))?;
@@ -22,7 +25,7 @@ fn write_mark(out: &mut Vec<u8>, mark: Mark) -> Result<(), AllocError>
 }
 
 /// Appends a text.
-fn write_words(out: &mut Vec<u8>, text: &Chars) -> Result<(), AllocError>
+pub fn write_words(out: &mut Vec<u8>, text: &Chars) -> Result<(), AllocError>
     ensures { OnOk result (Prints out.old.items (Words text.now ∷ []) out.new.items) }
 {
     write_text(out, text.as_str())
@@ -50,19 +53,24 @@ fn write_type(out: &mut Vec<u8>, types: &[Chars], number: Option<u32>) -> Result
     }
 }
 
-/// Appends what stands before the entries of an object.
-fn write_class(out: &mut Vec<u8>, class: &Class) -> Result<(), AllocError>
-    ensures { OnOk result (Prints out.old.items (Sign Mark.Named ∷ Words class.now.name ∷ Sign Mark.BeginFields ∷ []) out.new.items) }
+/// Appends a text that was prepared.
+#[inline(always)]
+fn write_prepared(out: &mut Vec<u8>, text: &Octets) -> Result<(), AllocError>
+    ensures { (es : List Element) → Prints [] es text.now → OnOk result (Prints out.old.items es out.new.items) }
 {
-    write_mark(out, Mark::Named)?;
-    write_words(out, &class.name)?;
-    write_mark(out, Mark::BeginFields)?;
+    out.extend_from_slice(text.as_slice())?;
     Ok(())
 }
 
 /// Appends what stands before a node's entries.
-pub fn write_head(out: &mut Vec<u8>, parts: &Parts, node: &Node) -> Result<(), AllocError>
-    requires { NamesThere parts.now.types parts.now.classes node.now }
+pub fn write_head(
+    out: &mut Vec<u8>,
+    parts: &Parts,
+    texts: &[ClassTexts],
+    node: &Node,
+) -> Result<(), AllocError>
+    requires there { NamesThere parts.now.types parts.now.classes node.now }
+    requires texts { HaveTexts parts.now.classes texts.now }
     ensures { OnOk result (Prints out.old.items (head_of (kind_of parts.now.types parts.now.classes node.now)) out.new.items) }
 {
     match node {
@@ -74,9 +82,7 @@ pub fn write_head(out: &mut Vec<u8>, parts: &Parts, node: &Node) -> Result<(), A
             write_type(out, parts.types.as_slice(), *type_name)?;
             write_mark(out, Mark::BeginMap)
         }
-        Node::Object { class, .. } => {
-            write_class(out, &parts.classes.as_slice()[*class as usize])
-        }
+        Node::Object { class, .. } => write_prepared(out, &texts[*class as usize].head),
     }
 }
 
@@ -101,25 +107,17 @@ pub fn write_comma(out: &mut Vec<u8>, at: usize) -> Result<(), AllocError>
     write_mark(out, Mark::Comma)
 }
 
-/// Appends what stands before the value of a field.
-fn write_field(out: &mut Vec<u8>, class: &Class, at: usize) -> Result<(), AllocError>
-    requires { at < length class.now.fields }
-    ensures { OnOk result (Prints out.old.items (Words (get_or class.now.fields at []) ∷ Sign Mark.Colon ∷ []) out.new.items) }
-{
-    write_words(out, &class.fields.as_slice()[at])?;
-    write_mark(out, Mark::Colon)?;
-    Ok(())
-}
-
 /// Appends what stands before the value at a place of a node.
 #[inline(always)]
 pub fn write_before(
     out: &mut Vec<u8>,
     parts: &Parts,
+    texts: &[ClassTexts],
     node: &Node,
     at: usize,
 ) -> Result<(), AllocError>
     requires there { NamesThere parts.now.types parts.now.classes node.now }
+    requires texts { HaveTexts parts.now.classes texts.now }
     requires within { at < length (values_of node.now) }
     ensures { OnOk result (Prints out.old.items (before (kind_of parts.now.types parts.now.classes node.now) at) out.new.items) }
 {
@@ -134,9 +132,7 @@ pub fn write_before(
             Ok(())
         }
         Node::Object { class, .. } => {
-            write_comma(out, at)?;
-            write_field(out, &parts.classes.as_slice()[*class as usize], at)?;
-            Ok(())
+            write_prepared(out, &texts[*class as usize].fields.as_slice()[at])
         }
     }
 }

@@ -5,6 +5,7 @@
 #![tactic(auto)]
 
 mod building;
+mod class_texts;
 mod contents;
 mod element;
 mod entries;

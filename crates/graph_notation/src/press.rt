@@ -4,8 +4,10 @@ ghost use Rattle.std.specs.Prelude.{◌≡◌, ℕ, ◌+◌, ◌-◌, ◌<◌, �
 ghost use Rattle.hessian_graph.specs.Shape.{shape_of, values_at, values_of, no_vertex};
 ghost use Rattle.hessian_graph.specs.declared.value.Value.TheVariants.{Node as AtNode, Null};
 ghost use Rattle.graph_notation.specs.Notation.{PrintsForm, IsPrinted};
+ghost use Rattle.graph_notation.specs.Preparing.{HaveTexts};
 ghost use Rattle.graph_notation.specs.Pressing.{Pressed, PressedAt, Awaits, CanPrint, AreCanonical, work};
 
+use crate::class_texts::{ClassTexts, texts_of};
 use crate::entries::{value_at, write_before, write_comma, write_end, write_head, write_leaf};
 use crate::halt::Halt;
 use hessian_graph::{Graph, Node, Parts, Value, canon};
@@ -49,8 +51,9 @@ impl Press {
     }
 
     /// Prints a value. Of a node that hasn't begun it prints what stands before the entries.
-    fn value(&mut self, parts: &Parts, value: &Value) -> Result<(), Halt>
+    fn value(&mut self, parts: &Parts, texts: &[ClassTexts], value: &Value) -> Result<(), Halt>
         requires ready { CanPrint parts.now }
+        requires texts { HaveTexts parts.now.classes texts.now }
         requires awaits { Awaits (shape_of parts.now) value.now self.old }
         ensures pressed { OnOk result (Pressed (shape_of parts.now) self.new) }
         ensures work { OnOk result (work (shape_of parts.now) self.new ≤ work (shape_of parts.now) self.old) }
@@ -58,7 +61,9 @@ impl Press {
         ensures order { result ≡ Err Halt.OutOfOrder → AreCanonical parts.now → ⊥ }
     {
         match value {
-            Value::Node(number) if *number as usize >= self.begun => self.begin(parts, *number),
+            Value::Node(number) if *number as usize >= self.begun => self.begin(
+                parts, texts, *number,
+            ),
             _ => {
                 write_leaf(&mut self.out, value)?;
                 Ok(())
@@ -75,8 +80,9 @@ impl Press {
     }
 
     /// Begins a node that hasn't begun: prints what stands before its entries.
-    fn begin(&mut self, parts: &Parts, number: u32) -> Result<(), Halt>
+    fn begin(&mut self, parts: &Parts, texts: &[ClassTexts], number: u32) -> Result<(), Halt>
         requires ready { CanPrint parts.now }
+        requires texts { HaveTexts parts.now.classes texts.now }
         requires awaits { Awaits (shape_of parts.now) (AtNode number) self.old }
         requires new { self.old.begun ≤ number }
         ensures pressed { OnOk result (Pressed (shape_of parts.now) self.new) }
@@ -85,7 +91,7 @@ impl Press {
         ensures order { result ≡ Err Halt.OutOfOrder → AreCanonical parts.now → ⊥ }
     {
         if self.is_next(parts, number) {
-            self.open(parts, number)?;
+            self.open(parts, texts, number)?;
             Ok(())
         } else {
             Err(Halt::OutOfOrder)
@@ -93,8 +99,9 @@ impl Press {
     }
 
     /// Begins the node that comes next.
-    fn open(&mut self, parts: &Parts, number: u32) -> Result<(), AllocError>
+    fn open(&mut self, parts: &Parts, texts: &[ClassTexts], number: u32) -> Result<(), AllocError>
         requires ready { CanPrint parts.now }
+        requires texts { HaveTexts parts.now.classes texts.now }
         requires awaits { Awaits (shape_of parts.now) (AtNode number) self.old }
         requires next { number ≡ self.old.begun }
         requires there { number < length parts.now.nodes }
@@ -105,6 +112,7 @@ impl Press {
         write_head(
             &mut self.out,
             parts,
+            texts,
             &parts.nodes.as_slice()[number as usize],
         )?;
         self.begun += 1;
@@ -129,11 +137,13 @@ impl Press {
     fn leaf(
         &mut self,
         parts: &Parts,
+        texts: &[ClassTexts],
         node: &Node,
         step: Step,
         value: &Value,
     ) -> Result<(), AllocError>
         requires ready { CanPrint parts.now }
+        requires texts { HaveTexts parts.now.classes texts.now }
         requires below { step.node < length parts.now.nodes }
         requires here { node.now ≡ get_or parts.now.nodes step.node no_vertex }
         requires pressed { PressedAt (shape_of parts.now) step self.old }
@@ -143,14 +153,21 @@ impl Press {
         ensures same { (self.new.stack ≡ self.old.stack) × (self.new.begun ≡ self.old.begun) × (self.new.roots ≡ self.old.roots) }
         ensures pressed { OnOk result (PressedAt (shape_of parts.now) (record { node = step.node; at = step.at + 1 }) self.new) }
     {
-        write_before(&mut self.out, parts, node, step.at)?;
+        write_before(&mut self.out, parts, texts, node, step.at)?;
         write_leaf(&mut self.out, value)?;
         Ok(())
     }
 
     /// Prints the next values of a node up to one that has yet to begin, and answers its place.
-    fn leaves(&mut self, parts: &Parts, node: &Node, step: Step) -> Result<usize, AllocError>
+    fn leaves(
+        &mut self,
+        parts: &Parts,
+        texts: &[ClassTexts],
+        node: &Node,
+        step: Step,
+    ) -> Result<usize, AllocError>
         requires ready { CanPrint parts.now }
+        requires texts { HaveTexts parts.now.classes texts.now }
         requires below { step.node < length parts.now.nodes }
         requires here { node.now ≡ get_or parts.now.nodes step.node no_vertex }
         requires pressed { PressedAt (shape_of parts.now) step self.old }
@@ -165,6 +182,7 @@ impl Press {
             }
             self.leaf(
                 parts,
+                texts,
                 node,
                 Step {
                     node: step.node,
@@ -178,8 +196,15 @@ impl Press {
     }
 
     /// Prints the next value of a node, or its end.
-    fn turn(&mut self, parts: &Parts, node: &Node, step: Step) -> Result<(), Halt>
+    fn turn(
+        &mut self,
+        parts: &Parts,
+        texts: &[ClassTexts],
+        node: &Node,
+        step: Step,
+    ) -> Result<(), Halt>
         requires ready { CanPrint parts.now }
+        requires texts { HaveTexts parts.now.classes texts.now }
         requires below { step.node < length parts.now.nodes }
         requires here { node.now ≡ get_or parts.now.nodes step.node no_vertex }
         requires pressed { PressedAt (shape_of parts.now) step self.old }
@@ -191,12 +216,12 @@ impl Press {
     {
         match value_at(node, step.at) {
             Some(value) => {
-                write_before(&mut self.out, parts, node, step.at)?;
+                write_before(&mut self.out, parts, texts, node, step.at)?;
                 self.stack.push(Step {
                     node: step.node,
                     at: step.at + 1,
                 })?;
-                self.value(parts, value)?;
+                self.value(parts, texts, value)?;
                 Ok(())
             }
             None => {
@@ -207,8 +232,9 @@ impl Press {
     }
 
     /// Goes on at the innermost node: prints its next values up to a node that begins, or up to its end.
-    fn go_on(&mut self, parts: &Parts, step: Step) -> Result<(), Halt>
+    fn go_on(&mut self, parts: &Parts, texts: &[ClassTexts], step: Step) -> Result<(), Halt>
         requires ready { CanPrint parts.now }
+        requires texts { HaveTexts parts.now.classes texts.now }
         requires pressed { PressedAt (shape_of parts.now) step self.old }
         ensures pressed { OnOk result (Pressed (shape_of parts.now) self.new) }
         ensures work { OnOk result (work (shape_of parts.now) self.new
@@ -217,9 +243,10 @@ impl Press {
         ensures order { result ≡ Err Halt.OutOfOrder → AreCanonical parts.now → ⊥ }
     {
         let node = &parts.nodes.as_slice()[step.node as usize];
-        let at = self.leaves(parts, node, step)?;
+        let at = self.leaves(parts, texts, node, step)?;
         self.turn(
             parts,
+            texts,
             node,
             Step {
                 node: step.node,
@@ -230,8 +257,9 @@ impl Press {
     }
 
     /// Prints what is left of the nodes that have begun.
-    fn drain(&mut self, parts: &Parts) -> Result<(), Halt>
+    fn drain(&mut self, parts: &Parts, texts: &[ClassTexts]) -> Result<(), Halt>
         requires ready { CanPrint parts.now }
+        requires texts { HaveTexts parts.now.classes texts.now }
         requires pressed { Pressed (shape_of parts.now) self.old }
         ensures pressed { OnOk result (Pressed (shape_of parts.now) self.new) }
         ensures empty { OnOk result (self.new.stack.items ≡ []) }
@@ -239,14 +267,15 @@ impl Press {
         ensures order { result ≡ Err Halt.OutOfOrder → AreCanonical parts.now → ⊥ }
     {
         while let Some(step) = self.stack.pop() {
-            self.go_on(parts, step)?;
+            self.go_on(parts, texts, step)?;
         }
         Ok(())
     }
 
     /// Prints a root, and what it reaches.
-    fn root(&mut self, parts: &Parts, root: &Value) -> Result<(), Halt>
+    fn root(&mut self, parts: &Parts, texts: &[ClassTexts], root: &Value) -> Result<(), Halt>
         requires ready { CanPrint parts.now }
+        requires texts { HaveTexts parts.now.classes texts.now }
         requires pressed { Pressed (shape_of parts.now) self.old }
         requires empty { self.old.stack.items ≡ [] }
         requires within { self.old.roots < length parts.now.roots }
@@ -259,8 +288,8 @@ impl Press {
     {
         write_comma(&mut self.out, self.roots)?;
         self.roots += 1;
-        self.value(parts, root)?;
-        self.drain(parts)?;
+        self.value(parts, texts, root)?;
+        self.drain(parts, texts)?;
         Ok(())
     }
 
@@ -272,8 +301,9 @@ impl Press {
     }
 
     /// Prints the roots, and what they reach.
-    fn roots(&mut self, parts: &Parts) -> Result<(), Halt>
+    fn roots(&mut self, parts: &Parts, texts: &[ClassTexts]) -> Result<(), Halt>
         requires ready { CanPrint parts.now }
+        requires texts { HaveTexts parts.now.classes texts.now }
         requires pressed { Pressed (shape_of parts.now) self.old }
         requires empty { self.old.stack.items ≡ [] }
         requires none { self.old.roots ≡ 0 }
@@ -281,7 +311,7 @@ impl Press {
         ensures order { result ≡ Err Halt.OutOfOrder → AreCanonical parts.now → ⊥ }
     {
         for root in parts.roots.as_slice() {
-            self.root(parts, root)?;
+            self.root(parts, texts, root)?;
         }
         if self.all_begun(parts) {
             Ok(())
@@ -297,8 +327,9 @@ fn print_parts(alloc: Global, parts: &Parts) -> Result<Vec<u8>, Halt>
     ensures printed { IfOk result (λ text. IsPrinted (shape_of parts.now) text.items) }
     ensures order { result ≡ Err Halt.OutOfOrder → AreCanonical parts.now → ⊥ }
 {
+    let texts = texts_of(alloc, parts.classes.as_slice())?;
     let mut press = Press::new(alloc, parts);
-    press.roots(parts)?;
+    press.roots(parts, texts.as_slice())?;
     let Press { out, .. } = press;
     Ok(out)
 }

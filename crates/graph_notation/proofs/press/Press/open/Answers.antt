@@ -8,8 +8,8 @@ use Rattle.graph_notation.proofs.press.Press.open.Goals as goal
 pub bounds-as_slice-number : goal.bounds-as_slice-number
 bounds-as_slice-number c = rw c.as_slice.ensures c.requires.there
 
-pub write_head-requires : goal.write_head-requires
-write_head-requires c =
+pub write_head-requires-clause-there : goal.write_head-requires-clause-there
+write_head-requires-clause-there c =
     there_here c.args.parts.now c.args.number c.index-as_slice-number.result c.requires.ready c.requires.there
     (indexed c.as_slice.result.now c.args.parts.now.nodes c.args.number c.index-as_slice-number.result c.index-as_slice-number.is c.as_slice.ensures c.requires.there)
 

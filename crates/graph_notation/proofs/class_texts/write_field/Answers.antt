@@ -4,7 +4,7 @@ use Rattle.hessian_graph.specs.Shape.{Text}
 use Rattle.graph_notation.specs.declared.element.Element.TheVariants.{Words}
 use Rattle.graph_notation.specs.Pressing.{Prints}
 use Rattle.graph_notation.proofs.Repeating.{prints_both}
-use Rattle.graph_notation.proofs.entries.write_field.Goals as goal
+use Rattle.graph_notation.proofs.class_texts.write_field.Goals as goal
 
 pub returns : goal.returns
 returns c =
