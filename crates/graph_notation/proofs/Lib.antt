@@ -33,3 +33,4 @@ pub mod OneNotation
 pub mod Appends
 pub mod OneRefusal
 pub mod Preparing
+pub mod Written

@@ -1,10 +1,11 @@
 -- What is written run by run.
-use Rattle.std.proofs.Common.{◌≡◌, ℕ, zero, suc, ◌+◌, ◌-◌, ◌*◌, ◌/◌, ◌%◌, ◌<◌, ◌≤◌, List, [], ◌∷◌, ◌++◌, length, get_or, take, drop, set, refl, ap, sym, ◌∙◌, subst, arith, append_assoc, length-drop, length-set, length-take-le, add-one, add-zero}
+use Rattle.std.proofs.Common.{◌≡◌, ℕ, zero, suc, ◌+◌, ◌-◌, ◌*◌, ◌/◌, ◌%◌, ◌<◌, ◌≤◌, List, [], ◌∷◌, ◌++◌, length, get_or, take, drop, set, refl, ap, sym, ◌∙◌, subst, arith, inl, inr, append_assoc, length-drop, length-set, length-take-le, add-one, add-zero}
 use Rattle.std.specs.List.{flat_map}
+use Rattle.std.proofs.lemmas.Bool.{cases_lt}
 use Rattle.std.proofs.lemmas.Grind.{flat_map-append}
 use Rattle.std.proofs.lemmas.List.{append-nil, take_all, take_more_set, take-append-drop}
 use Rattle.std.proofs.Math.Seq.{take-suc}
-use Rattle.graph_notation.specs.Elements.{escaped, hex_digit, hex_pair}
+use Rattle.graph_notation.specs.Elements.{escaped, quoted, hex_digit, hex_pair}
 use Rattle.graph_notation.specs.Pressing.{IsOn}
 
 pub one_more : (f : ℕ → List ℕ) (xs : List ℕ) (i : ℕ) → i < length xs → flat_map f (take (i + 1) xs) ≡ flat_map f (take i xs) ++ f (get_or xs i 0)
@@ -110,3 +111,27 @@ pub all_written : (text before out : List ℕ) (from i : ℕ) → from ≤ i →
 all_written text before out from i low h w =
     let m : length (drop from text) ≡ length text - from = length-drop from text in
     ap (λ x. out ++ x) (sym (take_all (i - from) (drop from text) (omega (arith, m)))) ∙ w ∙ ap (λ x. before ++ flat_map escaped x) (take_all i text h)
+
+-- bytes before a place stand for themselves
+abbrev pub StandTo : List ℕ → ℕ → Type 0
+StandTo text end = (k : ℕ) → k < end → escaped (get_or text k 0) ≡ get_or text k 0 ∷ []
+
+-- and those of the block behind it
+pub stand_further : (text block : List ℕ) (at n : ℕ) → StandTo text at → block ≡ take n (drop at text) → StandTo block (length block) → at + n ≤ length text → StandTo text (at + n)
+stand_further text block at n before is stand h k low = elim (cases_lt k at) [
+  | inl l ↦ before k l
+  | inr l ↦
+      let e : at + (k - at) ≡ k = omega (arith, l) in
+      subst (λ i. escaped (get_or text i 0) ≡ get_or text i 0 ∷ []) e (in_block text block at n is stand h (k - at) (omega (arith, low, l)))
+]
+
+-- bytes that all stand for themselves are what is written of them
+all_as_they_are : (xs : List ℕ) → StandTo xs (length xs) → flat_map escaped xs ≡ xs
+all_as_they_are [] h = refl
+all_as_they_are (x ∷ xs) h = ap (λ y. y ++ flat_map escaped xs) (h 0 (omega arith)) ∙ ap (λ ys. x ∷ ys) (all_as_they_are xs (λ k low. h (suc k) (omega (arith, low))))
+
+pub as_is : (text old first mid new : List ℕ) → StandTo text (length text) → first ≡ old ++ 0x22 ∷ [] → mid ≡ first ++ text → new ≡ mid ++ 0x22 ∷ [] → new ≡ old ++ quoted text
+as_is text old first mid new stand a b e =
+    e ∙ ap (λ x. x ++ 0x22 ∷ []) (b ∙ ap (λ x. x ++ text) a ∙ append_assoc old (0x22 ∷ []) text)
+    ∙ append_assoc old (0x22 ∷ text) (0x22 ∷ [])
+    ∙ ap (λ x. old ++ 0x22 ∷ (x ++ 0x22 ∷ [])) (sym (all_as_they_are text stand))

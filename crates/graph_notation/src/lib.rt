@@ -26,6 +26,8 @@ mod short_numbers;
 mod stop;
 mod token_ends;
 mod words;
+mod written_bytes;
+mod written_numbers;
 
 pub use fault::{NODE_LIMIT, NotationFault};
 pub use hessian_graph::OutOfMemory;

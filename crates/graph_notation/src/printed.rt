@@ -1,22 +1,21 @@
 //! The one token that is written for an element.
 
-ghost use Rattle.std.specs.Prelude.{◌≡◌, ℕ, List, ◌+◌, ◌*◌, ◌<◌, ◌≤◌, ◌∷◌, ◌++◌, [], ◌-◌, ◌^◌, All, FitsSigned, OnOk, OnErr, IfOk, decimal, length, take, drop, get_or, true};
-ghost use Rattle.std.specs.Fmt.{signed_decimal};
+ghost use Rattle.std.specs.Prelude.{◌≡◌, ℕ, List, ◌+◌, ◌<◌, ◌≤◌, ◌∷◌, ◌++◌, [], ◌-◌, OnOk, OnErr, IfOk, length, take, drop, get_or, true};
 ghost use Rattle.std.specs.List.{flat_map};
-ghost use Rattle.std.specs.Int.{w32, w64};
 ghost use Rattle.std.specs.Str.{IsUtf8};
 ghost use Rattle.graph_notation.specs.Appending.{BeginsWith};
 ghost use Rattle.graph_notation.specs.Notation.{IsSoundElement};
 ghost use Rattle.graph_notation.specs.Pressing.{IsOn, element_of};
-ghost use Rattle.graph_notation.specs.Elements.{mark_byte, hex_digit, hex_pair, short_hex, is_control, escaped, quoted, word_of};
+ghost use Rattle.graph_notation.specs.Elements.{mark_byte, escaped, quoted, word_of};
 
 use crate::element::Mark;
+use crate::written_bytes::{digit, see, write_pairs};
+use crate::written_numbers::{write_int, write_long, write_reference};
 use hessian_graph::Value;
-use itoa::Buffer;
 use std::alloc::AllocError;
 
-/// How many bytes of a list are written in one go.
-const BLOCK: usize = 64;
+/// The most bytes of a text that is looked at as a whole first.
+const SHORT: usize = 64;
 
 /// The byte of a mark.
 pub fn byte_of(mark: Mark) -> u8
@@ -33,92 +32,6 @@ pub fn byte_of(mark: Mark) -> u8
         Mark::Colon => b':',
         Mark::Named => b'!',
     }
-}
-
-/// Appends a number of 32 bits.
-fn write_int(out: &mut Vec<u8>, number: i32) -> Result<(), AllocError>
-    ensures fits { FitsSigned w32 number }
-    ensures written { OnOk result (out.new.items ≡ out.old.items ++ signed_decimal number) }
-{
-    let mut buffer = Buffer::new();
-    out.extend_from_slice(buffer.format(number).as_bytes())?;
-    Ok(())
-}
-
-/// Appends a number of 64 bits.
-fn write_long(out: &mut Vec<u8>, number: i64) -> Result<(), AllocError>
-    ensures fits { FitsSigned w64 number }
-    ensures written { OnOk result (out.new.items ≡ out.old.items ++ signed_decimal number) }
-{
-    let mut buffer = Buffer::new();
-    out.extend_from_slice(buffer.format(number).as_bytes())?;
-    Ok(())
-}
-
-/// Appends a reference to a node.
-fn write_reference(out: &mut Vec<u8>, number: u32) -> Result<(), AllocError>
-    ensures fits { number < 2 ^ 32 }
-    ensures written { OnOk result (out.new.items ≡ out.old.items ++ 0x23 ∷ decimal number) }
-{
-    let mut buffer = Buffer::new();
-    out.push(b'#')?;
-    out.extend_from_slice(buffer.format(number).as_bytes())?;
-    Ok(())
-}
-
-/// Bytes are below 256.
-fn see(bytes: &[u8])
-    ensures { All (λ b. b < 256) bytes.now }
-{
-    let _length = bytes.len();
-}
-
-/// A hexadecimal digit.
-fn digit(number: u8) -> u8
-    requires { number < 16 }
-    ensures { result ≡ hex_digit number }
-{
-    if number < 10 {
-        b'0' + number
-    } else {
-        0x57 + number
-    }
-}
-
-/// Two digits for each byte of a block, and what is left of the room for them.
-fn pairs_of(block: &[u8]) -> [u8; 128]
-    requires { length block.now ≤ 64 }
-    ensures { take (2 * length block.now) result ≡ flat_map hex_pair block.now }
-{
-    let mut pairs = [0; 128];
-    for at in 0..block.len() {
-        pairs[2 * at] = digit(block[at] / 16);
-        pairs[2 * at + 1] = digit(block[at] % 16);
-    }
-    pairs
-}
-
-/// Appends two digits for each byte of a block.
-#[inline(always)]
-fn write_block(out: &mut Vec<u8>, block: &[u8]) -> Result<(), AllocError>
-    requires { length block.now ≤ 64 }
-    ensures { OnOk result (out.new.items ≡ out.old.items ++ flat_map hex_pair block.now) }
-{
-    let pairs = pairs_of(block);
-    out.extend_from_slice(&pairs[..2 * block.len()])?;
-    Ok(())
-}
-
-/// Appends two digits for each byte.
-fn write_pairs(out: &mut Vec<u8>, bytes: &[u8]) -> Result<(), AllocError>
-    ensures { OnOk result (out.new.items ≡ out.old.items ++ flat_map hex_pair bytes.now) }
-{
-    let mut at = 0;
-    while bytes.len() - at >= BLOCK {
-        write_block(out, &bytes[at..at + BLOCK])?;
-        at += BLOCK;
-    }
-    write_block(out, &bytes[at..])
 }
 
 /// Appends a byte of a text that doesn't stand for itself.
@@ -152,6 +65,7 @@ fn flaw(byte: u8) -> u8
 }
 
 /// Whether each byte of a block stands for itself.
+#[inline(always)]
 fn all_stand(block: &[u8]) -> bool
     ensures { result ≡ true → (k : ℕ) → k < length block.now → escaped (get_or block.now k 0) ≡ get_or block.now k 0 ∷ [] }
 {
@@ -160,6 +74,38 @@ fn all_stand(block: &[u8]) -> bool
         most = most.max(flaw(*byte));
     }
     most == 0
+}
+
+/// Whether each byte of a text stands for itself, looked at in blocks, the last of which may begin within the one before.
+#[inline(always)]
+fn stand_by_blocks(text: &[u8], size: usize) -> bool
+    requires some { 0 < size }
+    requires whole { size ≤ length text.now }
+    ensures { result ≡ true → (k : ℕ) → k < length text.now → escaped (get_or text.now k 0) ≡ get_or text.now k 0 ∷ [] }
+{
+    let last = text.len() - size;
+    let mut at = 0;
+    while at < last {
+        if !all_stand(&text[at..at + size]) {
+            return false;
+        }
+        at += size;
+    }
+    all_stand(&text[last..])
+}
+
+/// Whether each byte of a short text stands for itself.
+#[inline(always)]
+fn stand_at_once(text: &[u8]) -> bool
+    ensures { result ≡ true → (k : ℕ) → k < length text.now → escaped (get_or text.now k 0) ≡ get_or text.now k 0 ∷ [] }
+{
+    if text.len() < 8 {
+        all_stand(text)
+    } else if text.len() < 16 {
+        stand_by_blocks(text, 8)
+    } else {
+        stand_by_blocks(text, 16)
+    }
 }
 
 /// Appends a run of bytes that stand for themselves, and the byte behind them, which doesn't.
@@ -254,7 +200,22 @@ fn write_content(out: &mut Vec<u8>, text: &[u8]) -> Result<(), AllocError>
     Ok(())
 }
 
-/// Appends a text in quotes.
+/// Appends a short text in quotes, each byte of which stands for itself.
+#[inline(always)]
+fn write_as_is(out: &mut Vec<u8>, text: &[u8]) -> Result<(), AllocError>
+    requires short { length text.now ≤ 64 }
+    requires stands { (k : ℕ) → k < length text.now → escaped (get_or text.now k 0) ≡ get_or text.now k 0 ∷ [] }
+    ensures written { OnOk result (out.new.items ≡ out.old.items ++ quoted text.now) }
+    ensures err { OnErr result (out.new.items ≡ out.old.items) }
+{
+    out.reserve(text.len() + 2)?;
+    out.push_reserved(b'"');
+    out.extend_from_slice(text)?;
+    out.push_reserved(b'"');
+    Ok(())
+}
+
+/// Appends any text in quotes.
 fn write_quoted(out: &mut Vec<u8>, text: &[u8]) -> Result<(), AllocError>
     ensures written { OnOk result (out.new.items ≡ out.old.items ++ quoted text.now) }
     ensures begins { BeginsWith out.old.items out.new.items }
@@ -265,6 +226,19 @@ fn write_quoted(out: &mut Vec<u8>, text: &[u8]) -> Result<(), AllocError>
     Ok(())
 }
 
+/// Appends any text in quotes. After a refusal `out` is unchanged.
+fn write_whole(out: &mut Vec<u8>, text: &[u8]) -> Result<(), AllocError>
+    ensures written { OnOk result (out.new.items ≡ out.old.items ++ quoted text.now) }
+    ensures err { OnErr result (out.new.items ≡ out.old.items) }
+{
+    let before = out.len();
+    let outcome = write_quoted(out, text);
+    if outcome.is_err() {
+        out.truncate(before);
+    }
+    outcome
+}
+
 /// Appends a text as it stands in a notation: in quotes, with its quotes, backslashes and control characters escaped.
 ///
 /// After a refusal `out` is unchanged.
@@ -273,12 +247,12 @@ pub fn write_text(out: &mut Vec<u8>, text: &str) -> Result<(), AllocError>
     ensures written { OnOk result (out.new.items ≡ out.old.items ++ quoted text.now) }
     ensures err { OnErr result (out.new.items ≡ out.old.items) }
 {
-    let before = out.len();
-    let outcome = write_quoted(out, text.as_bytes());
-    if outcome.is_err() {
-        out.truncate(before);
+    let bytes = text.as_bytes();
+    if bytes.len() <= SHORT && stand_at_once(bytes) {
+        write_as_is(out, bytes)
+    } else {
+        write_whole(out, bytes)
     }
-    outcome
 }
 
 /// Appends a value that is no node, or the number of a node that has begun.

@@ -3,7 +3,7 @@ use Rattle.std.specs.List.{flat_map}
 use Rattle.std.proofs.lemmas.Result.{on_ok_weaker}
 use Rattle.graph_notation.specs.Elements.{hex_pair}
 use Rattle.graph_notation.proofs.Runs.{pairs_on, pairs_end}
-use Rattle.graph_notation.proofs.printed.write_pairs.Goals as goal
+use Rattle.graph_notation.proofs.written_bytes.write_pairs.Goals as goal
 
 pub loop-at-preserved : goal.loop-at-preserved
 loop-at-preserved c =

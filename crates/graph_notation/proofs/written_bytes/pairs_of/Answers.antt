@@ -1,6 +1,6 @@
 use Rattle.std.proofs.Common.{◌+◌, ◌*◌, set, length-set, ◌∙◌, arith}
 use Rattle.graph_notation.proofs.Runs.{pair_on}
-use Rattle.graph_notation.proofs.printed.pairs_of.Goals as goal
+use Rattle.graph_notation.proofs.written_bytes.pairs_of.Goals as goal
 
 pub loop-at-preserved : goal.loop-at-preserved
 loop-at-preserved c =
