@@ -34,3 +34,4 @@ pub mod Appends
 pub mod OneRefusal
 pub mod Preparing
 pub mod Written
+pub mod PrintedLeaves

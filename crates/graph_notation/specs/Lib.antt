@@ -16,3 +16,4 @@ pub mod Pressing
 pub mod Appending
 pub mod Limit
 pub mod Preparing
+pub mod PrintedLeaves

@@ -1,6 +1,6 @@
 //! What stands before the entries of a class's objects and before their values, prepared once for all of them.
 
-ghost use Rattle.std.specs.Prelude.{◌≡◌, ◌<◌, ◌∷◌, [], length, get_or, IfOk, OnOk};
+ghost use Rattle.std.specs.Prelude.{◌<◌, ◌∷◌, [], length, get_or, IfOk, OnOk};
 ghost use Rattle.hessian_graph.specs.Shape.{ObjectKind};
 ghost use Rattle.graph_notation.specs.declared.element.Element.TheVariants.{Sign, Words};
 ghost use Rattle.graph_notation.specs.Pressing.{Prints, head_of, before};

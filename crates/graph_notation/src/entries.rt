@@ -55,7 +55,7 @@ fn write_type(out: &mut Vec<u8>, types: &[Chars], number: Option<u32>) -> Result
 
 /// Appends a text that was prepared.
 #[inline(always)]
-fn write_prepared(out: &mut Vec<u8>, text: &Octets) -> Result<(), AllocError>
+pub fn write_prepared(out: &mut Vec<u8>, text: &Octets) -> Result<(), AllocError>
     ensures { (es : List Element) → Prints [] es text.now → OnOk result (Prints out.old.items es out.new.items) }
 {
     out.extend_from_slice(text.as_slice())?;

@@ -14,6 +14,7 @@ mod frame;
 mod halt;
 mod hex;
 pub mod laws;
+mod leaves;
 mod lists;
 mod name_table;
 mod numbers;

@@ -1,7 +1,7 @@
 //! Printing a graph, element by element.
 
-ghost use Rattle.std.specs.Prelude.{◌≡◌, ℕ, ◌+◌, ◌-◌, ◌<◌, ◌≤◌, [], Err, length, get_or, OnOk, IfOk, IfSome, IfNone, IsTrue, ◌↔◌};
-ghost use Rattle.hessian_graph.specs.Shape.{shape_of, values_at, values_of, no_vertex};
+ghost use Rattle.std.specs.Prelude.{◌≡◌, ◌+◌, ◌-◌, ◌<◌, ◌≤◌, [], Err, length, get_or, OnOk, IfOk, IsTrue, ◌↔◌};
+ghost use Rattle.hessian_graph.specs.Shape.{shape_of, values_at, no_vertex};
 ghost use Rattle.hessian_graph.specs.declared.value.Value.TheVariants.{Node as AtNode, Null};
 ghost use Rattle.graph_notation.specs.Notation.{PrintsForm, IsPrinted};
 ghost use Rattle.graph_notation.specs.Preparing.{HaveTexts};
@@ -10,6 +10,7 @@ ghost use Rattle.graph_notation.specs.Pressing.{Pressed, PressedAt, Awaits, CanP
 use crate::class_texts::{ClassTexts, texts_of};
 use crate::entries::{value_at, write_before, write_comma, write_end, write_head, write_leaf};
 use crate::halt::Halt;
+use crate::leaves::write_leaves;
 use hessian_graph::{Graph, Node, Parts, Value, canon};
 use std::alloc::{AllocError, Global};
 
@@ -123,41 +124,6 @@ impl Press {
         Ok(())
     }
 
-    /// Whether a value is no node that has yet to begin.
-    fn is_leaf(&self, value: &Value) -> bool
-        ensures { IsTrue result → (k : ℕ) → value.now ≡ AtNode k → k < self.now.begun }
-    {
-        match value {
-            Value::Node(number) => (*number as usize) < self.begun,
-            _ => true,
-        }
-    }
-
-    /// Prints the next value of a node, which is no node that has yet to begin.
-    fn leaf(
-        &mut self,
-        parts: &Parts,
-        texts: &[ClassTexts],
-        node: &Node,
-        step: Step,
-        value: &Value,
-    ) -> Result<(), AllocError>
-        requires ready { CanPrint parts.now }
-        requires texts { HaveTexts parts.now.classes texts.now }
-        requires below { step.node < length parts.now.nodes }
-        requires here { node.now ≡ get_or parts.now.nodes step.node no_vertex }
-        requires pressed { PressedAt (shape_of parts.now) step self.old }
-        requires within { step.at < length (values_of node.now) }
-        requires is { value.now ≡ get_or (values_of node.now) step.at Null }
-        requires begun { (k : ℕ) → value.now ≡ AtNode k → k < self.old.begun }
-        ensures same { (self.new.stack ≡ self.old.stack) × (self.new.begun ≡ self.old.begun) × (self.new.roots ≡ self.old.roots) }
-        ensures pressed { OnOk result (PressedAt (shape_of parts.now) (record { node = step.node; at = step.at + 1 }) self.new) }
-    {
-        write_before(&mut self.out, parts, texts, node, step.at)?;
-        write_leaf(&mut self.out, value)?;
-        Ok(())
-    }
-
     /// Prints the next values of a node up to one that has yet to begin, and answers its place.
     fn leaves(
         &mut self,
@@ -175,24 +141,7 @@ impl Press {
         ensures further { IfOk result (λ at. step.at ≤ at) }
         ensures pressed { IfOk result (λ at. PressedAt (shape_of parts.now) (record { node = step.node; at = at }) self.new) }
     {
-        let mut at = step.at;
-        while let Some(value) = value_at(node, at) {
-            if !self.is_leaf(value) {
-                return Ok(at);
-            }
-            self.leaf(
-                parts,
-                texts,
-                node,
-                Step {
-                    node: step.node,
-                    at,
-                },
-                value,
-            )?;
-            at += 1;
-        }
-        Ok(at)
+        write_leaves(&mut self.out, parts, texts, node, step.at, self.begun)
     }
 
     /// Prints the next value of a node, or its end.
