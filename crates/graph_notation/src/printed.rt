@@ -255,8 +255,20 @@ pub fn write_text(out: &mut Vec<u8>, text: &str) -> Result<(), AllocError>
     }
 }
 
-/// Appends a value that is no node, or the number of a node that has begun.
+/// Appends a value that is no node, or the number of a node that has begun. Ints are looked at first.
+#[inline(always)]
 pub fn write_value(out: &mut Vec<u8>, value: &Value) -> Result<(), AllocError>
+    ensures sound { OnOk result (IsSoundElement (element_of value.now)) }
+    ensures written { OnOk result (out.new.items ≡ out.old.items ++ word_of value.now) }
+{
+    match value {
+        Value::Int(number) => write_int(out, *number),
+        _ => write_any(out, value),
+    }
+}
+
+/// Appends any such value.
+fn write_any(out: &mut Vec<u8>, value: &Value) -> Result<(), AllocError>
     ensures sound { OnOk result (IsSoundElement (element_of value.now)) }
     ensures written { OnOk result (out.new.items ≡ out.old.items ++ word_of value.now) }
 {
