@@ -1,12 +1,12 @@
 -- The writer's bytes for a value are determined, where those of leaves are.
-use Rattle.std.proofs.Common.{◌≡◌, ℕ, ◌+◌, ◌<◌, ◌≤◌, List, [], ◌∷◌, ◌++◌, length, get_or, refl, ap, sym, ◌∙◌, subst, arith, inl, inr, ◌⊎◌, length-append}
+use Rattle.std.proofs.Common.{◌≡◌, ℕ, ◌+◌, ◌<◌, ◌≤◌, List, [], ◌∷◌, ◌++◌, length, refl, ap, sym, ◌∙◌, subst, arith, inl, inr}
 use Rattle.std.specs.Prelude.{pos, Some, None}
 use Rattle.std.proofs.lemmas.Bool.{cases_order}
 use Rattle.hessian_graph.specs.declared.value.Value.{Value}
 use Rattle.hessian_graph.specs.declared.value.Value.TheVariants as values
 use Rattle.hessian_graph.specs.declared.node.Class.{Class}
 use Rattle.hessian_graph.specs.Shape.{Text, Shape, Kind, ListKind, MapKind, ObjectKind, values_at, kind_at, no_class}
-use Rattle.hessian_graph.specs.Reading.{Tables, Leaves, OneSpelling, IntSpelling, IsScalar, no_tables, one_more, add_type, add_class}
+use Rattle.hessian_graph.specs.Reading.{Tables, Leaves, OneSpelling, IntSpelling, IsScalar, one_more, add_class}
 use Rattle.hessian_graph.specs.Spells.{ClassSpelling, TextsSpelling, Begins}
 use Rattle.hessian_graph.specs.Spells.TextsSpelling.{none as no_texts, one as one_text}
 use Rattle.hessian_graph.specs.Forms.{TypeForm, IsEarliest, IsNew, SHORT_LENGTH, SHORT_CLASS, Writes, WritesAll, InForms, Written}
