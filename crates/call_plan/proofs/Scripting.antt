@@ -12,10 +12,20 @@ use Rattle.call_plan.specs.Size.{IsReady}
 use Rattle.call_plan.specs.ScriptLines.{lines_of, HaveLines, IsGoodLine, IsCallTooMany, RefusesLine, rows_in, calls_in}
 use Rattle.call_plan.specs.ScriptLines.HaveLines.{none, more}
 use Rattle.call_plan.specs.ScriptReading.{IsRefusedAtLine, Refuses}
-use Rattle.call_plan.specs.Progress.{Takes, TakesCall, TakesService, RefusesCall, RefusesService, IsReadTo, IsDraft, IsRefusedEarly}
+use Rattle.call_plan.specs.Progress.{Takes, TakesCall, TakesService, RefusesCall, RefusesService, IsDraft, IsRefusedEarly}
 use Rattle.service_table.specs.Adding.{MayAdd}
 use Rattle.call_plan.specs.LineForms.{IsServiceLine}
 use Rattle.call_plan.proofs.Saying.{begun_says, call_begun, service_once}
+
+-- `number` lines of the bytes have been read, and `rest` follows them
+pub record IsReadTo (bytes rest : List ℕ) (number : ℕ) (rows : List Row) (calls : List Call) : Type 0 where
+  pub before : List (List ℕ)
+  pub cut : lines_of bytes ≡ before ++ lines_of rest
+  pub counted : number ≡ length before
+  pub room : number + length rest ≤ length bytes
+  pub few : length rows ≤ number
+  pub good : HaveLines before rows calls
+  pub ready : All IsReady calls
 
 -- what follows from an answer follows where it is given
 pub on_ok : {A E : Type 0} (r : Result A E) (P Q : Type 0) → (P → Q) → OnOk r P → OnOk r Q
@@ -25,15 +35,6 @@ on_ok (Err e) P Q f p = tt
 pub if_err : {A E : Type 0} (r : Result A E) (P Q : E → Type 0) → ((e : E) → P e → Q e) → IfErr r P → IfErr r Q
 if_err (Ok a) P Q f p = tt
 if_err (Err e) P Q f p = f e p
-
--- one line
-pub takes_nothing : (rows : List Row) (calls : List Call) (number : ℕ) (text : List ℕ) → IsSkipped text → Takes rows calls number text rows calls
-takes_nothing rows calls number text is = record {
-  line = nothing;
-  good = record { says = is; placed = tt };
-  rows_are = sym (append-nil rows);
-  calls_are = sym (append-nil calls);
-}
 
 pub takes_call : (rows : List Row) (calls : List Call) (number : ℕ) (text : List ℕ) (then : List Call) → TakesCall calls number text then → Takes rows calls number text rows then
 takes_call rows calls number text then p = record {
@@ -118,44 +119,6 @@ one_more_read bytes rest line after number rows rows_then calls calls_then read 
           (subst (λ rs. HaveLines (read.before ++ line ∷ []) rs (calls ++ calls_in takes.line)) (sym takes.rows_are) have);
       ready = ready read.ready;
     }
-
--- all lines have been read
-pub all_read : (bytes rest : List ℕ) (number : ℕ) (rows : List Row) (calls : List Call) → length rest ≡ 0 → IsReadTo bytes rest number rows calls → IsDraft bytes rows calls
-all_read bytes [] number rows calls end is = record {
-  good = subst (λ lines. HaveLines lines rows calls) (sym (is.cut ∙ append-nil is.before)) is.good;
-  ready = is.ready;
-}
-all_read bytes (byte ∷ rest) number rows calls end is = absurd (omega arith)
-
--- the next line is refused
-pub refused_read : (bytes rest line after : List ℕ) (number : ℕ) (rows : List Row) (calls : List Call) → IsReadTo bytes rest number rows calls → lines_of rest ≡ line ∷ lines_of after
-    → (fault : ScriptFault) → RefusesLine rows calls (number + 1) line fault → IsRefusedEarly bytes fault
-refused_read bytes rest line after number rows calls read split (BadLine l) p =
-    let next : number + 1 ≡ suc (length read.before) = omega (arith, read.counted) in
-    record {
-      before = read.before;
-      text = line;
-      after = lines_of after;
-      rows = rows;
-      calls = calls;
-      cut = read.cut ∙ ap (λ ls. read.before ++ ls) split;
-      good = read.good;
-      refused = subst (λ n. RefusesLine rows calls n line (BadLine l)) next p;
-    }
-refused_read bytes rest line after number rows calls read split (TooManyCalls l) p =
-    let next : number + 1 ≡ suc (length read.before) = omega (arith, read.counted) in
-    record {
-      before = read.before;
-      text = line;
-      after = lines_of after;
-      rows = rows;
-      calls = calls;
-      cut = read.cut ∙ ap (λ ls. read.before ++ ls) split;
-      good = read.good;
-      refused = subst (λ n. RefusesLine rows calls n line (TooManyCalls l)) next p;
-    }
-refused_read bytes rest line after number rows calls read split (TooLarge l) p = p
-refused_read bytes rest line after number rows calls read split OutOfMemory p = tt
 
 -- an early refusal is one
 pub early : (bytes : List ℕ) (fault : ScriptFault) → IsRefusedEarly bytes fault → Refuses bytes fault

@@ -17,9 +17,6 @@ counted r = length-map r.args.nodes (node_shape r.args.types r.args.classes)
 pub few_nodes : (r : Request) → length r.args.nodes < 999998 → ¬ HasManyNodes r
 few_nodes r few many = omega (arith, counted r, length-append (shape_of r.args).nodes)
 
-pub many_nodes : (r : Request) → 999998 ≤ length r.args.nodes → HasManyNodes r
-many_nodes r many = omega (arith, counted r, length-append (shape_of r.args).nodes)
-
 -- neither too many nodes nor too long a body
 pub small_request : (r : Request) → length r.args.nodes < 999998 → ((count : ℕ) → ¬ IsTooLong (WrittenRequest hessian hessian_forms r) count) → ¬ IsTooLarge r
 small_request r few none (inl many) = few_nodes r few many

@@ -39,16 +39,6 @@ RefusesService rows number text (TooManyCalls line) = ⊥
 RefusesService rows number text (TooLarge line) = ⊥
 RefusesService rows number text OutOfMemory = Unit {0}
 
--- `number` lines of the bytes have been read, and `rest` follows them
-pub record IsReadTo (bytes rest : List ℕ) (number : ℕ) (rows : List Row) (calls : List Call) : Type 0 where
-  pub before : List (List ℕ)
-  pub cut : lines_of bytes ≡ before ++ lines_of rest
-  pub counted : number ≡ length before
-  pub room : number + length rest ≤ length bytes
-  pub few : length rows ≤ number
-  pub good : HaveLines before rows calls
-  pub ready : All IsReady calls
-
 -- all lines have been read
 pub record IsDraft (bytes : List ℕ) (rows : List Row) (calls : List Call) : Type 0 where
   pub good : HaveLines (lines_of bytes) rows calls

@@ -153,9 +153,6 @@ pub desc_told : (desc : Text) (result : Result ℕ DescFault) (fault : DescFault
 desc_told desc result (BadDescriptor at) e bad many = (bad at).0 e
 desc_told desc result (TooManyArgs at) e bad many = (many at).0 e
 
-pub memory_stays : (header : Header) (fed : List ℕ) → StaysRefused faulty.OutOfMemory header fed
-memory_stays header fed = λ some. absurd (some refl)
-
 -- the body ends inside a text
 pub short_text : {texts : List Text} {at : ℕ} {came : List ℕ} {fed : List ℕ} (header : Header) (place : ℕ) → BeginsWith hessian header fed texts at came → length texts < FIELDS → EndsInside (IsField hessian (length texts)) came → place ≡ length fed → IsRefusedRequest header fed (faulty.Hessian (told.Short place))
 short_text {texts} {at} {came} header place b few inside e = (_, ap (λ n. faulty.Hessian (told.Short n)) e, short texts at came b few inside)

@@ -1,9 +1,8 @@
 -- The last root of a graph, and the graph without it.
-use Rattle.std.proofs.Common.{◌≡◌, ℕ, zero, suc, ◌+◌, ◌-◌, List, [], ◌∷◌, ◌++◌, length, get_or, take, refl, sym, ap, ◌∙◌, subst, arith, length-append}
+use Rattle.std.proofs.Common.{◌≡◌, ℕ, zero, suc, ◌+◌, ◌-◌, List, [], ◌∷◌, ◌++◌, length, take, refl, sym, ap, ◌∙◌, subst, arith, length-append}
 use Rattle.std.specs.Prelude.{map, Some, None}
 use Rattle.std.specs.List.{flat_map}
-use Rattle.std.proofs.Math.Seq.{take-suc, take-append_seam}
-use Rattle.std.proofs.lemmas.List.{take_all, length-take-le}
+use Rattle.std.proofs.Math.Seq.{take-append_seam}
 use Rattle.hessian_graph.specs.declared.node.Node.{Node}
 use Rattle.hessian_graph.specs.declared.node.Node.TheVariants as nodes
 use Rattle.hessian_graph.specs.declared.parts.Parts.{Parts}
@@ -58,13 +57,6 @@ fewer_sound p k e =
     (same_nodes p (take k p.roots) 0 p.nodes ∙ rest_nil (flat_map f p.roots) (faults_from p 0 p.nodes) e)
 
 -- ---- the last root
-
-pub last_of : (g : Shape) (count : ℕ) (d : Value) → length g.roots ≡ suc count → LastRoot g count (get_or g.roots count d)
-last_of g count d e = record {
-  args = take count g.roots;
-  roots = sym (take_all (suc count) g.roots (omega (arith, e))) ∙ take-suc g.roots count d (omega (arith, e));
-  each = length-take-le count g.roots (omega (arith, e));
-}
 
 -- the roots but the last are the arguments
 args_are : (g : Shape) (count : ℕ) (last : Value) (l : LastRoot g count last) → take (length g.roots - 1) g.roots ≡ l.args

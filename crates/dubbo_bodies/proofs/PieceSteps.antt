@@ -1,6 +1,6 @@
 -- A reading goes through a piece step by step.
 use Rattle.std.proofs.Common.{◌≡◌, ◌≢◌, ℕ, ◌+◌, ◌-◌, ◌≤◌, List, [], ◌++◌, length, take, drop, sym, ap, ◌∙◌, subst, arith, append_assoc, length-append}
-use Rattle.std.proofs.lemmas.List.{append-nil, take_all, length-take-le, length-drop}
+use Rattle.std.proofs.lemmas.List.{append-nil, length-take-le, length-drop}
 use Rattle.std.proofs.Math.Seq.{take-add}
 use Rattle.dubbo_header.specs.declared.header.Header.{Header}
 use Rattle.dubbo_bodies.specs.declared.fault.RequestFault.{RequestFault}
@@ -23,9 +23,6 @@ stays_now fault header fed h some = subst (λ body. IsRefusedRequest header body
 abbrev pub Leads : Progress → ℕ → List ℕ → Progress → Type 0
 Leads before at xs after = (header : Header) (fed : List ℕ) → at ≡ length fed → Stands before header fed → Stands after header (fed ++ xs)
 
-pub leads_none : (progress : Progress) (at : ℕ) (piece : List ℕ) → Leads progress at (take 0 piece) progress
-leads_none progress at piece = λ header fed e s. subst (Stands progress header) (sym (append-nil fed)) s
-
 pub leads_step : (first before after : Progress) (at taken used : ℕ) (piece rest : List ℕ) → rest ≡ drop taken piece → taken ≤ length piece → Leads first at (take taken piece) before → Leads before (at + taken) (take used rest) after → Leads first at (take (taken + used) piece) after
 leads_step first before after at taken used piece rest e low led step = λ header fed is s.
     let long = length-append fed (take taken piece) in
@@ -41,18 +38,9 @@ pub record Going (first : Progress) (at : ℕ) (piece : List ℕ) (taken : ℕ) 
   pub sound : IsSound now (at + taken)
   pub low : taken ≤ length piece
 
-pub going_none : (first : Progress) (at : ℕ) (piece : List ℕ) → IsSound first at → Going first at piece 0 first
-going_none first at piece s = record { led = leads_none first at piece; sound = subst (IsSound first) (let k : at ≡ at + 0 = omega arith in k) s; low = omega arith }
-
 pub going_on : (first before after : Progress) (at taken used : ℕ) (piece rest : List ℕ) → rest ≡ drop taken piece → used ≤ length rest → IsSound after (at + taken + used) → Leads before (at + taken) (take used rest) after → Going first at piece taken before → Going first at piece (taken + used) after
 going_on first before after at taken used piece rest e most s step g = record {
   led = leads_step first before after at taken used piece rest e g.low g.led step;
   sound = subst (IsSound after) (let k : at + taken + used ≡ at + (taken + used) = omega arith in k) s;
   low = let long : length rest ≡ length piece - taken = ap length e ∙ length-drop taken piece in let low = g.low in omega (arith, long, most, low);
 }
-
-pub going_all : (first after : Progress) (at taken : ℕ) (piece : List ℕ) → length piece ≤ taken → Going first at piece taken after → IsSound after (at + length piece)
-going_all first after at taken piece h g = subst (IsSound after) (let low = g.low in let k : at + taken ≡ at + length piece = omega (arith, h, low) in k) g.sound
-
-pub leads_all : (first after : Progress) (at taken : ℕ) (piece : List ℕ) → length piece ≤ taken → Leads first at (take taken piece) after → Leads first at piece after
-leads_all first after at taken piece h led = subst (λ xs. Leads first at xs after) (take_all taken piece h) led

@@ -1,5 +1,5 @@
 -- Attachments are read pair by pair.
-use Rattle.std.proofs.Common.{◌≡◌, ◌≢◌, ℕ, suc, ◌<◌, ◌≤◌, List, [], ◌∷◌, ◌++◌, length, get_or, drop, refl, sym, ap, ◌∙◌, subst, arith, append_assoc}
+use Rattle.std.proofs.Common.{◌≡◌, ℕ, suc, ◌<◌, ◌≤◌, List, [], ◌∷◌, ◌++◌, length, get_or, drop, refl, sym, ap, ◌∙◌, subst, arith, append_assoc}
 use Rattle.std.specs.Prelude.{nat_lt, true, false, Option, Some, None}
 use Rattle.std.proofs.lemmas.Bool.Decides.{nat_tests}
 use Rattle.std.proofs.Math.Seq.{drop-cons}
@@ -150,11 +150,3 @@ found_at p slice n node found s h e f = found_in p n node found (subst (λ (ns :
 
 pub found_past : (p : Parts) (slice : List Node) (n : ℕ) → slice ≡ p.nodes → false ≡ nat_lt n (length slice) → NoAttachments (shape_of p) (values.Node n)
 found_past p slice n s h = found_no_node p n (subst (λ (ns : List Node). length ns ≤ n) s (is_least n (length slice) h))
-
--- neither null nor a node
-some_value : {g : Shape} {v : Value} {all : List Attachment} → AttachmentsOf g v all → v ≢ values.Null → ((n : ℕ) → v ≢ values.Node n) → ⊥
-some_value nothing other_null other_node = other_null refl
-some_value (a_map n type all within kind texts) other_null other_node = other_node n refl
-
-pub found_other : (g : Shape) (v : Value) → v ≢ values.Null → ((n : ℕ) → v ≢ values.Node n) → NoAttachments g v
-found_other g v no_null no_node = λ all a. some_value a no_null no_node

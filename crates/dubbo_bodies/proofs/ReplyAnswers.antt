@@ -75,9 +75,6 @@ refused_now header bytes fault stays some = subst (λ b. IsRefusedReply header b
 pub stays_later : (header : Header) (bytes piece : List ℕ) (fault : ReplyFault) → StaysRefused header bytes fault → StaysRefused header (bytes ++ piece) fault
 stays_later header bytes piece fault stays some more = subst (λ b. IsRefusedReply header b fault) (sym (append_assoc bytes piece more)) (stays some (piece ++ more))
 
-pub memory_stays : (header : Header) (bytes : List ℕ) → StaysRefused header bytes answers.OutOfMemory
-memory_stays header bytes some more = absurd (some refl)
-
 pub stands_still : (header : Header) (bytes piece : List ℕ) (stage : Stage) → length piece ≡ 0 → Stands header bytes stage → Stands header (bytes ++ piece) stage
 stands_still header bytes [] stage e s = subst (λ b. Stands header b stage) (sym (append-nil bytes)) s
 stands_still header bytes (c ∷ piece) stage e s = absurd cc

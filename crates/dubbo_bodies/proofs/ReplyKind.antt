@@ -1,5 +1,5 @@
 -- The number of a kind, piece by piece.
-use Rattle.std.proofs.Common.{◌≡◌, ℕ, ◌-◌, ◌<◌, true, false, List, [], ◌∷◌, ◌++◌, length, take, drop, refl, ap, sym, ◌∙◌, subst, arith, append_assoc, inl, inr}
+use Rattle.std.proofs.Common.{◌≡◌, ℕ, ◌-◌, ◌<◌, true, List, [], ◌∷◌, ◌++◌, length, take, drop, refl, ap, sym, ◌∙◌, subst, arith, append_assoc, inl, inr}
 use Rattle.std.specs.Prelude.{ℤ, pos, Bool, MatchBool, Some, slice_get, slice_index}
 use Rattle.std.proofs.lemmas.Bool.Decides.{nat_tests}
 use Rattle.std.proofs.lemmas.List.{take-append-drop}
@@ -54,14 +54,6 @@ kind_begun header bytes [] piece a some begins code rest e =
     let q = first_of piece some in
     subst BeginsInt (first_same (slice_index piece 0) code q.0 rest (sym q.1 ∙ e)) (begins refl)
 kind_begun header bytes (c ∷ cs) piece a some begins code rest e = subst BeginsInt (first_same c code (cs ++ piece) rest e) (a.begun c cs refl)
-
-pub kind_more : (header : Header) (bytes came piece new : List ℕ) → AtKind header bytes came → 0 < length piece → (came ≡ [] → BeginsInt (slice_index piece 0)) → IsProperPrefix (came ++ piece) → new ≡ came ++ piece → AtKind header (bytes ++ piece) new
-kind_more header bytes came piece new a some begins p e = record {
-  outcome = a.outcome;
-  all = e ∙ ap (λ b. b ++ piece) a.all;
-  begun = λ code rest f. kind_begun header bytes came piece a some begins code rest (sym e ∙ f);
-  part = subst IsProperPrefix (sym e) p;
-}
 
 pub kind_whole : (header : Header) (bytes came piece : List ℕ) (z : ℤ) (used : ℕ) → AtKind header bytes came → Completes came (scalars.Int z) (take used piece) → IntSpelling hessian z (bytes ++ take used piece)
 kind_whole header bytes came piece z used a s = subst (λ b. ScalarSpelling (scalars.Int z) (b ++ take used piece)) a.all s
@@ -124,10 +116,6 @@ kind_short header bytes (c ∷ cs) a =
 -- before the first byte
 pub kind_new : (header : Header) (came : List ℕ) → IsOutcome header → came ≡ [] → AtKind header [] came
 kind_new header came o e = record { outcome = o; all = e; begun = λ code rest f. absurd (let g : [] ≡ code ∷ rest = sym e ∙ f in cc); part = subst IsProperPrefix (sym e) (record { value = scalars.Int (pos 0); more = 0x90 ∷ []; lacks = λ f. cc; spells = zero_int }) }
-
--- what the first byte must begin, where none came before
-pub kind_first : (came piece : List ℕ) (b : Bool) → b ≡ false → MatchBool b ((came ≡ []) × (BeginsInt (slice_index piece 0) → ⊥)) (came ≡ [] → BeginsInt (slice_index piece 0)) → came ≡ [] → BeginsInt (slice_index piece 0)
-kind_first came piece b e h = subst (λ x. MatchBool x ((came ≡ []) × (BeginsInt (slice_index piece 0) → ⊥)) (came ≡ [] → BeginsInt (slice_index piece 0))) e h
 
 pub kind_refused : (header : Header) (bytes came piece : List ℕ) (b : Bool) (stage : Stage) → AtKind header bytes came → 0 < length piece → b ≡ true → MatchBool b ((came ≡ []) × (BeginsInt (slice_index piece 0) → ⊥)) (came ≡ [] → BeginsInt (slice_index piece 0)) → stage ≡ stages.Refused (answers.Hessian (told.BadCode 0 (slice_index piece 0))) → Stands header (bytes ++ piece) stage
 kind_refused header bytes came piece b stage a some e h is =

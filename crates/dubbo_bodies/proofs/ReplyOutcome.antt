@@ -1,6 +1,6 @@
 -- What a kind makes of the values behind it.
 use Rattle.std.proofs.Common.{◌≡◌, ◌≢◌, ℕ, zero, suc, ◌+◌, ◌-◌, ◌<◌, ◌≤◌, List, [], ◌∷◌, ◌++◌, length, get_or, take, drop, map, drop-cons, Bor, refl, ap, sym, ◌∙◌, subst, arith}
-use Rattle.std.specs.Prelude.{ℤ, pos, Option, Some, None, Result, Ok, Err, IfErr, slice_get, MatchBool, Bool, true, false}
+use Rattle.std.specs.Prelude.{ℤ, pos, Option, Some, Result, Ok, Err, IfErr, slice_get, MatchBool, Bool, true, false}
 use Rattle.std.specs.Slice.{IsItemAt}
 use Rattle.std.proofs.lemmas.Option.{slice_get-get_or}
 use Rattle.std.proofs.lemmas.List.{length-append, drop_all, take_all}
@@ -30,7 +30,11 @@ use Rattle.dubbo_bodies.specs.ReplyBody.HasBeside.{exception as b_exception, val
 use Rattle.dubbo_bodies.specs.ReplyBody.Outcome.{exception as o_exception, value as o_value, null as o_null, exception_beside as o_exception_beside, value_beside as o_value_beside}
 use Rattle.dubbo_bodies.specs.ReplyBody.{AreSome, HasRoots, Outcome, null_alone}
 use Rattle.dubbo_bodies.specs.Refusals.{LacksAttachments}
-use Rattle.dubbo_bodies.specs.ReplyKinds.{HasTextPairs, IsTextNode, LastAreSome, LastAreNone, FirstBeside, LacksBeside, SameKeys, number_of}
+use Rattle.dubbo_bodies.specs.ReplyKinds.{HasTextPairs, IsTextNode, LastAreSome, LastAreNone, FirstBeside, LacksBeside, number_of}
+
+-- each key among the first is a text exactly where each among the second is
+abbrev pub SameKeys : List Value → List Value → Type 0
+SameKeys all rest = (HasTextPairs all → HasTextPairs rest) × (HasTextPairs rest → HasTextPairs all)
 
 -- ---- keys that are texts
 
@@ -77,9 +81,6 @@ no_text_pairs = ([], none)
 
 -- ---- keys up to a place
 
-apart : (key : Value) → ((text : Text) → key ≡ values.Text text → ⊥) → IsNoText key
-apart key not = not
-
 here : (pairs : List Pair) (at : ℕ) (pair : Pair) → at < length pairs → pair ≡ get_or pairs at pair → alternately (drop at pairs) ≡ pair.key ∷ pair.value ∷ alternately (drop (at + 1) pairs)
 here pairs at pair low is = ap alternately (drop-cons pairs at pair low ∙ ap (λ p. p ∷ drop (suc at) pairs) (sym is) ∙ ap (λ n. pair ∷ drop n pairs) (let e : suc at ≡ at + 1 = omega arith in e))
 
@@ -105,11 +106,6 @@ there : {A B : Type 0} (f : A → B) (d : B) (xs : List A) (n : ℕ) (x : A) →
 there f d [] n x e = absurd cc
 there f d (y ∷ ys) zero x e = (omega arith, ap f (let h : y ≡ x = cc in h))
 there f d (y ∷ ys) (suc n) x e = let (l, g) = there f d ys n x e in (omega (arith, l), g)
-
-not_there : {A B : Type 0} (f : A → B) (xs : List A) (n : ℕ) → slice_get xs n ≡ None → n < length (map f xs) → ⊥
-not_there f [] n e l = omega (arith, l)
-not_there f (y ∷ ys) zero e l = cc
-not_there f (y ∷ ys) (suc n) e l = not_there f ys n e (omega (arith, l))
 
 -- a map in the table has the values of its pairs
 pub map_is_some : (p : Parts) (n : ℕ) (type : Option ℕ) (pairs : List Pair) → slice_get p.nodes n ≡ Some (nodes.Map type pairs) → HasTextPairs (alternately pairs) → AreSome (shape_of p) (values.Node n)
@@ -151,25 +147,7 @@ object_is_none p n class vs e = λ attachments are.
     let kind : MapKind m.type ≡ ObjectKind (get_or p.classes class no_class) = sym m.kind ∙ ap (λ (x : NodeShape). x.kind) same in
     cc
 
-pub absent_is_none : (p : Parts) (n : ℕ) → slice_get p.nodes n ≡ None → NoAttachments (shape_of p) (values.Node n)
-absent_is_none p n e = λ attachments are.
-    let m = text_map (shape_of p) n (values.Node n) attachments refl are in
-    not_there (node_shape p.types p.classes) p.nodes n e m.within
-
-pub other_is_none : (g : Shape) (v : Value) → v ≢ values.Null → ((n : ℕ) → v ≢ values.Node n) → NoAttachments g v
-other_is_none g v null node = λ attachments are. by_form v refl attachments are
-  where
-    by_form : (w : Value) → w ≡ v → (attachments : List Attachment) → AttachmentsOf g w attachments → ⊥
-    by_form w e attachments nothing = null (sym e)
-    by_form w e attachments (a_map n type entries within kind are) = node n (sym e)
-
 -- ---- the last root
-
-pub last_lacks : (g : Shape) (before : ℕ) → length g.roots ≡ suc before → LastAreNone g → LacksAttachments g before
-last_lacks g before many l =
-    let long = length-append l.before (l.last ∷ []) in
-    let all : length g.roots ≡ length (l.before ++ l.last ∷ []) = ap length l.roots in
-    record { args = l.before; last = l.last; roots = l.roots; each = omega (arith, many, long, all); none = l.none }
 
 record OneBefore (before : List Value) : Type 0 where
   root : Value
@@ -232,9 +210,6 @@ node_answer p n (nodes.Object class vs) false at h = object_is_none p n class vs
 
 pub value_answer : (p : Parts) (value : Value) (n : ℕ) (node : Node) (b : Bool) → value ≡ values.Node n → slice_get p.nodes n ≡ Some node → MatchBool b (IsTextNode node) (IsTextNode node → ⊥) → MatchBool b (AreSome (shape_of p) value) (NoAttachments (shape_of p) value)
 value_answer p value n node b e at h = subst (λ v. MatchBool b (AreSome (shape_of p) v) (NoAttachments (shape_of p) v)) (sym e) (node_answer p n node b at h)
-
-pub absent_value : (p : Parts) (value : Value) (n : ℕ) → value ≡ values.Node n → slice_get p.nodes n ≡ None → NoAttachments (shape_of p) value
-absent_value p value n e at = subst (NoAttachments (shape_of p)) (sym e) (absent_is_none p n at)
 
 pub last_answer : (g : Shape) (last : Value) (b : Bool) → 1 ≤ length g.roots → last ≡ get_or g.roots (length g.roots - 1) last → MatchBool b (AreSome g last) (NoAttachments g last) → MatchBool b (LastAreSome g) (LastAreNone g)
 last_answer g last b some is h = by_answer b h

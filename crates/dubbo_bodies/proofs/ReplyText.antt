@@ -1,6 +1,6 @@
 -- The text of a status, piece by piece.
 use Rattle.std.proofs.Common.{◌≡◌, ◌≢◌, ℕ, zero, suc, ◌+◌, ◌-◌, ◌<◌, ◌≤◌, List, [], ◌∷◌, ◌++◌, length, take, drop, refl, ap, sym, ◌∙◌, subst, arith, append_assoc, inl, inr}
-use Rattle.std.specs.Prelude.{Bool, true, false, MatchBool, slice_index, ◌⊎◌}
+use Rattle.std.specs.Prelude.{Bool, true, false, slice_index, ◌⊎◌}
 use Rattle.std.proofs.lemmas.Bool.{cases_lt}
 use Rattle.std.proofs.lemmas.List.{append-nil, length-append, take-append-drop, take_all, get_or-append-add, length-take-le}
 use Rattle.hessian_graph.specs.Shape.{Text}
@@ -48,11 +48,6 @@ second_of [] h = absurd (omega (arith, h))
 second_of (c ∷ []) h = absurd (omega (arith, h))
 second_of (c ∷ d ∷ rest) h = (d, rest, refl)
 
-one_byte : (piece : List ℕ) → 0 < length piece → length piece ≤ 1 → piece ≡ slice_index piece 0 ∷ []
-one_byte [] h l = absurd (omega (arith, h))
-one_byte (c ∷ []) h l = refl
-one_byte (c ∷ d ∷ rest) h l = absurd (omega (arith, l))
-
 nothing_yet : (bytes : List ℕ) → length bytes ≡ 0 → bytes ≡ []
 nothing_yet [] e = refl
 nothing_yet (b ∷ bs) e = absurd (omega (arith, e))
@@ -61,9 +56,6 @@ pub null_and_more : (header : Header) (bytes piece : List ℕ) → IsStatus head
 null_and_more header bytes piece status none first more =
     let (code, rest, is) = second_of piece more in
     null_trailing header (bytes ++ piece) code rest status (ap (λ b. b ++ piece) (nothing_yet bytes none) ∙ is ∙ ap (λ c. c ∷ code ∷ rest) first)
-
-pub null_alone : (header : Header) (bytes piece : List ℕ) → IsStatus header → length bytes ≡ 0 → slice_index piece 0 ≡ NULL → 0 < length piece → length piece ≤ 1 → AtNull header (bytes ++ piece)
-null_alone header bytes piece status none first some low = record { status = status; null = ap (λ b. b ++ piece) (nothing_yet bytes none) ∙ one_byte piece some low ∙ ap (λ c. c ∷ []) first }
 
 pub behind_null_more : (header : Header) (bytes piece : List ℕ) → AtNull header bytes → 0 < length piece → StaysRefused header (bytes ++ piece) (answers.Hessian (told.Trailing 1))
 behind_null_more header bytes [] a some = absurd (omega (arith, some))
@@ -184,9 +176,3 @@ pub text_short : (header : Header) (bytes : List ℕ) (reading : Reading) (count
 text_short header bytes reading count a counted inside =
     let cut = cut_short Letters reading.stage bytes (a.advances).gained a.small (a.advances).runs inside in
     (Hessian (Short (length bytes)), ap (λ n. answers.Hessian (told.Short n)) counted, refusal_short_text a.status.serial a.status.status (record { more = cut.more; lacks = cut.lacks; whole = (cut.value, a_text cut.value (bytes ++ cut.more) cut.spells) }))
-
-pub text_kind : (header : Header) (bytes : List ℕ) (reading : Reading) → AtText header bytes reading → reading.kind ≡ Letters
-text_kind header bytes reading a = (a.advances).kind
-
-pub not_null : (count byte : ℕ) (b : Bool) → b ≡ false → MatchBool b ((count ≡ 0) × (byte ≡ NULL)) (count ≡ 0 → byte ≢ NULL) → count ≡ 0 → byte ≢ NULL
-not_null count byte b e h = subst (λ x. MatchBool x ((count ≡ 0) × (byte ≡ NULL)) (count ≡ 0 → byte ≢ NULL)) e h

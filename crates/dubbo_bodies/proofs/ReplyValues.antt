@@ -1,12 +1,11 @@
 -- The values behind the number of a kind, piece by piece.
-use Rattle.std.proofs.Common.{◌≡◌, ◌≢◌, ℕ, ◌+◌, ◌-◌, ◌<◌, ◌≤◌, List, [], ◌++◌, length, take, ap, sym, ◌∙◌, subst, arith, append_assoc, inl, inr}
+use Rattle.std.proofs.Common.{◌≡◌, ◌≢◌, ℕ, ◌+◌, ◌-◌, ◌<◌, ◌≤◌, List, ◌++◌, length, take, ap, sym, ◌∙◌, subst, arith, append_assoc, inl, inr}
 use Rattle.std.specs.Prelude.{ℤ, ◌⊎◌, None, Result, Ok, Err, IfOk, IfErr}
 use Rattle.std.proofs.lemmas.Bool.{cases_lt}
-use Rattle.std.proofs.lemmas.List.{append-nil, length-append, take-append-le, take_all}
+use Rattle.std.proofs.lemmas.List.{length-append, take-append-le, take_all}
 use Rattle.hessian_graph.specs.declared.parts.Parts.{Parts}
 use Rattle.hessian_graph.specs.Shape.{Shape, shape_of}
 use Rattle.hessian_graph.specs.Refusal.{Cause, Short, Double, BadCode, BadText, BadRef, BadType, BadClass, BadLength, TooManyNodes, Trailing}
-use Rattle.hessian_graph.specs.Reading.{IntSpelling}
 use Rattle.hessian_text.specs.Spelling.{AreBytes}
 use Rattle.hessian_reader.specs.declared.fault.HessianFault.{HessianFault}
 use Rattle.hessian_reader.specs.declared.fault.HessianFault.TheVariants as told
@@ -21,7 +20,6 @@ use Rattle.dubbo_header.specs.declared.header.Header.{Header}
 use Rattle.dubbo_bodies.specs.declared.message.Reply.{Reply}
 use Rattle.dubbo_bodies.specs.declared.reply_fault.ReplyFault.{ReplyFault}
 use Rattle.dubbo_bodies.specs.declared.reply_fault.ReplyFault.TheVariants as answers
-use Rattle.dubbo_bodies.specs.declared.reply_reader.kind.Kind.{Kind}
 use Rattle.dubbo_bodies.specs.declared.reply_reader.values.Values.{Values}
 use Rattle.dubbo_bodies.specs.FaultsBehind.{place_of}
 use Rattle.dubbo_bodies.specs.Refusals.{Hessian, BadAttachments, behind}
@@ -31,7 +29,7 @@ use Rattle.dubbo_bodies.specs.ReplyFaults.{ReplyFaultOf}
 use Rattle.dubbo_bodies.specs.ReplyBody.{HasRoots, Outcome, BeginsWithKind, ReplyOf}
 use Rattle.dubbo_bodies.specs.ReplyBody.ReplyOf.{outcome}
 use Rattle.dubbo_bodies.specs.ReplyKinds.{LacksBeside, number_of}
-use Rattle.dubbo_bodies.specs.ReplyStages.{IsOutcome, AtValues, BeginsValues, StaysRefused}
+use Rattle.dubbo_bodies.specs.ReplyStages.{AtValues, StaysRefused}
 use Rattle.dubbo_bodies.proofs.ReplyPlaces.{refusal_place}
 
 -- ---- more bytes behind a kind
@@ -151,17 +149,6 @@ ends_full header bytes piece v a used small full (m, ends', is, low) n ends =
     omega (arith, at, same, long, full, low)
 
 -- ---- before the first byte of the values
-
-pub values_begin : (header : Header) (front : List ℕ) (kind : Kind) (v : Values) → IsOutcome header → IntSpelling hessian (number_of kind) front → BeginsValues kind (length front) v → AtValues header front v
-values_begin header front kind v o is b = record {
-  rest = [];
-  begins = subst (λ k. BeginsWithKind hessian header front (number_of k) v.from []) (sym b.kind_is) (record { serial = o.serial; status = o.status; front = front; is_kind = is; place = b.from_is; joined = sym (append-nil front) });
-  roots = b.roots;
-  has_roots = subst (λ k. HasRoots (number_of k) b.roots) (sym b.kind_is) b.has_roots;
-  read = b.read;
-  serves = b.serves;
-  whole = λ n ends. let low = ends.within in omega (arith, low);
-}
 
 -- ---- all values came
 

@@ -51,11 +51,6 @@ one_text_by text other bytes more all small e a_null a_null = (sym (let f : [] �
 pub one_text : (text other : Text) (bytes more : List ℕ) → AreBytes bytes → OptionalText hessian text bytes → OptionalText hessian other (bytes ++ more) → (more ≡ []) × (other ≡ text)
 one_text text other bytes more small o p = one_text_by text other bytes more (bytes ++ more) small refl o p
 
--- an optional text has at least one byte
-pub some_optional : (text : Text) (bytes : List ℕ) → OptionalText hessian text bytes → bytes ≢ []
-some_optional text bytes (a_text t b s) e = some_text text bytes s e
-some_optional text bytes a_null e = cc
-
 -- ---- a refusal inside a text stays, whatever follows
 
 range_stays : (element rest : List ℕ) (p : ℕ) → p ≤ length element → slice_range (element ++ rest) 0 p ≡ slice_range element 0 p

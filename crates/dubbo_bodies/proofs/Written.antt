@@ -1,14 +1,13 @@
 -- Pieces of bodies that are written one after another.
-use Rattle.std.proofs.Common.{◌≡◌, ℕ, ◌+◌, ◌<◌, ◌≤◌, List, [], ◌∷◌, ◌++◌, length, get_or, take, refl, ap, sym, ◌∙◌, subst, append_assoc}
+use Rattle.std.proofs.Common.{◌≡◌, ℕ, ◌+◌, ◌<◌, ◌≤◌, List, [], ◌∷◌, ◌++◌, length, get_or, take, refl, ap, sym, ◌∙◌, subst}
 use Rattle.std.proofs.lemmas.List.{take_more, take_all}
 use Rattle.hessian_graph.specs.Spells.{TextsSpelling}
 use Rattle.hessian_text.specs.Written.{AppendsText}
 use Rattle.hessian_writer.specs.Leaves.{hessian_forms}
-use Rattle.hessian_writer.specs.Appending.{Appends, AppendsTexts}
+use Rattle.hessian_writer.specs.Appending.{AppendsTexts}
 use Rattle.hessian_writer.proofs.Appended.{no_texts_yet, one_more_text}
 use Rattle.dubbo_bodies.specs.declared.attachment.Attachment.{Attachment}
 use Rattle.dubbo_bodies.specs.Attachments.{texts_of}
-use Rattle.dubbo_bodies.specs.WrittenBody.{MapForm}
 
 -- texts that are written behind nothing
 pub five_texts : (a b c d e o0 o1 o2 o3 o4 o5 : List ℕ) → o0 ≡ [] → AppendsText o0 a o1 → AppendsText o1 b o2 → AppendsText o2 c o3 → AppendsText o3 d o4 → AppendsText o4 e o5 → TextsSpelling hessian_forms (a ∷ b ∷ c ∷ d ∷ e ∷ []) o5
@@ -35,13 +34,3 @@ pairs_more entries i a old mid between new h e before name value =
 
 pub all_pairs : (entries : List Attachment) (i : ℕ) (old new : List ℕ) → length entries ≤ i → AppendsTexts (texts_of (take i entries)) old new → AppendsTexts (texts_of entries) old new
 all_pairs entries i old new h a = subst (λ (es : List Attachment). AppendsTexts (texts_of es) old new) (take_all i entries h) a
-
--- a code, the texts, and the end of a map
-pub map_written : (entries : List Attachment) (old begun texts new : List ℕ) → begun ≡ old ++ 0x48 ∷ [] → AppendsTexts (texts_of entries) begun texts → new ≡ texts ++ 0x5a ∷ [] → Appends (MapForm hessian_forms entries) old new
-map_written entries old begun texts new first a last =
-    let bytes : List ℕ = 0x48 ∷ (a.bytes ++ 0x5a ∷ []) in
-    record {
-      bytes = bytes;
-      is = record { items = a.bytes; texts = a.is; joined = refl };
-      joined = last ∙ ap (λ xs. xs ++ 0x5a ∷ []) (a.joined ∙ ap (λ xs. xs ++ a.bytes) first ∙ append_assoc old (0x48 ∷ []) a.bytes) ∙ append_assoc old (0x48 ∷ a.bytes) (0x5a ∷ []);
-    }

@@ -61,7 +61,3 @@ pub record LacksBeside (g : Shape) (kind : ℤ) : Type 0 where
   pub before : ℕ
   pub beside : HasBeside kind before
   pub lacks : LacksAttachments g before
-
--- each key among the first is a text exactly where each among the second is
-abbrev pub SameKeys : List Value → List Value → Type 0
-SameKeys all rest = (HasTextPairs all → HasTextPairs rest) × (HasTextPairs rest → HasTextPairs all)

@@ -29,12 +29,6 @@ pub record IsShownTo (input left text : List ℕ) : Type 0 where
   pub fits : length left ≤ length input
   pub goes_on : (at : ℕ) (rest lines : List ℕ) → at + length left ≡ length input → HasLines at left rest lines → HasLines 0 input rest (text ++ lines)
 
-pub shown_none : (input : List ℕ) → IsShownTo input input []
-shown_none input = record {
-  fits = omega arith;
-  goes_on = λ at rest lines here has. subst (λ n. HasLines n input rest lines) (omega arith) has;
-}
-
 first_length : (left behind : List ℕ) (header : Header) (body : List ℕ) → IsFirst left header body behind → length left ≡ length (frame_bytes (frame_of header body)) + length behind
 first_length left behind header body first = ap length first.split ∙ length-append (frame_bytes (frame_of header body)) behind
 

@@ -20,12 +20,6 @@ argument_2 (suc zero) number is = absurd (omega (arith, is))
 argument_2 (suc (suc zero)) number is = refl
 argument_2 (suc (suc (suc form))) number is = absurd (omega (arith, is))
 
-pub argument_3 : (form : ℕ) (number : List ℕ) → 3 ≤ form → argument form number ≡ codes "[" ++ number ++ codes ",#0]"
-argument_3 zero number is = absurd (omega (arith, is))
-argument_3 (suc zero) number is = absurd (omega (arith, is))
-argument_3 (suc (suc zero)) number is = absurd (omega (arith, is))
-argument_3 (suc (suc (suc form))) number is = refl
-
 -- pieces that are put behind a text one after another
 pieces_behind : (text a b c x y z n : List ℕ) → ((((((text ++ a) ++ b) ++ c) ++ x) ++ y) ++ z) ++ n ≡ text ++ (a ++ b ++ c ++ (x ++ y ++ z) ++ n)
 pieces_behind text a b c x y z n =

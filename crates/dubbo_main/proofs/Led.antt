@@ -53,28 +53,6 @@ no_value name word behind more tail dashes named some none value rest is = elim 
       (sym named ∙ same_behind word behind (name ++ codes "=" ++ value) dashes joined.0 ∙ append_assoc name (codes "=") value))
 ]
 
--- nothing stands behind the name, and no word follows
-pub no_word : (name word behind more : List ℕ) (tail : List (List ℕ)) → word ≡ codes "--" ++ behind → behind ≡ name ++ more → more ≡ [] → tail ≡ []
-    → (value : List ℕ) (rest : List (List ℕ)) → ¬ IsFirstOption name value (word ∷ tail) rest
-no_word name word behind more tail dashes named nothing last value rest is = elim (led_once name value word tail rest is) [
-  | inl apart ↦ (let e : [] ≡ value ∷ rest = sym last ∙ apart.1 in absurd cc)
-  | inr joined ↦ (let e : [] ≡ codes "=" ++ value = sym nothing ∙ append_cancel_left name more (codes "=" ++ value)
-      (sym named ∙ same_behind word behind (name ++ codes "=" ++ value) dashes joined.0 ∙ append_assoc name (codes "=") value) in absurd cc)
-]
-
--- the value stands behind the name and its sign
-pub joined_value : (name word behind more value : List ℕ) (tail : List (List ℕ)) → word ≡ codes "--" ++ behind → behind ≡ name ++ more → more ≡ codes "=" ++ value
-    → IsFirstOption name value (word ∷ tail) tail
-joined_value name word behind more value tail dashes named sign =
-    inr (ap (λ w. w ∷ tail) (dashes ∙ ap (λ b. codes "--" ++ b) (named ∙ ap (λ m. name ++ m) sign ∙ sym (append_assoc name (codes "=") value))))
-
--- the value is the next word
-pub next_value : (name word behind more value : List ℕ) (tail rest : List (List ℕ)) → word ≡ codes "--" ++ behind → behind ≡ name ++ more → more ≡ [] → tail ≡ value ∷ rest
-    → IsFirstOption name value (word ∷ tail) rest
-next_value name word behind more value tail rest dashes named nothing next =
-    let same : word ≡ codes "--" ++ name = dashes ∙ ap (λ b. codes "--" ++ b) (named ∙ ap (λ m. name ++ m) nothing ∙ append-nil name) in
-    inl (ap (λ w. w ∷ tail) same ∙ ap (λ t. (codes "--" ++ name) ∷ t) next)
-
 longer : (name value : List ℕ) → codes "--" ++ name ≡ codes "--" ++ name ++ codes "=" ++ value → ⊥
 longer name value same =
     let behind : name ≡ name ++ codes "=" ++ value = append_cancel_left (codes "--") name (name ++ codes "=" ++ value) same in
@@ -118,12 +96,6 @@ pub none_generated : (options : List (List ℕ)) → ((value : List ℕ) (rest :
 none_generated options no_calls no_show calls show few (calls_first rest first shows) = no_calls (decimal calls) rest first
 none_generated options no_calls no_show calls show few (show_first rest first counts) = no_show calls show rest few first counts
 
--- options that begin with another number than one of calls
-pub calls_refused : (value : List ℕ) (options rest : List (List ℕ)) → IsFirstOption (codes "calls") value options rest → ((n : ℕ) → n ≤ 4096 → value ≢ decimal n)
-    → (calls : ℕ) (show : Show) → calls ≤ 4096 → ¬ HaveGenerated options calls show
-calls_refused value options rest first refused calls show few (calls_first rest' first' shows) = refused calls few (option_once (codes "calls") value (decimal calls) options rest rest' first first').0
-calls_refused value options rest first refused calls show few (show_first rest' first' counts) = one_name value (show_word show) options rest rest' first first'
-
 -- options that say behind the calls what can't be shown
 pub show_refused : (value : List ℕ) (options rest : List (List ℕ)) → IsFirstOption (codes "calls") value options rest → ((show : Show) → ¬ HaveShow rest show)
     → (calls : ℕ) (show : Show) → calls ≤ 4096 → ¬ HaveGenerated options calls show
@@ -137,15 +109,6 @@ pub no_calls_behind : (word : List ℕ) (options rest : List (List ℕ)) → IsF
     → (calls : ℕ) (other : Show) (others : List (List ℕ)) → calls ≤ 4096 → IsFirstOption (codes "show") (show_word other) options others → ¬ IsOption (codes "calls") (decimal calls) others
 no_calls_behind word options rest first refused calls other others few first' counts =
     refused calls few (subst (λ r. IsOption (codes "calls") (decimal calls) r) (sym (option_once (codes "show") word (show_word other) options rest others first first').1) counts)
-
--- no such word is shown first
-pub no_show_first : (word : List ℕ) (options rest : List (List ℕ)) → IsFirstOption (codes "show") word options rest → ((show : Show) → word ≢ show_word show)
-    → (calls : ℕ) (other : Show) (others : List (List ℕ)) → calls ≤ 4096 → IsFirstOption (codes "show") (show_word other) options others → ¬ IsOption (codes "calls") (decimal calls) others
-no_show_first word options rest first refused calls other others few first' counts = refused other (option_once (codes "show") word (show_word other) options rest others first first').0
-
--- no option stands alone where another follows
-pub not_alone : (name value : List ℕ) (options rest : List (List ℕ)) → IsFirstOption name value options rest → rest ≢ [] → (other : List ℕ) → ¬ IsOption name other options
-not_alone name value options rest first more other alone = more (option_once name value other options rest [] first alone).1
 
 -- an option has one value
 pub value_once : (name one other : List ℕ) (options : List (List ℕ)) → IsOption name one options → IsOption name other options → one ≡ other

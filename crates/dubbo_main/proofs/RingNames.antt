@@ -10,12 +10,3 @@ name_is_text name is = IsUtf8-from_ascii name (λ i. elim (cases_lt i (length na
   | inl within ↦ (let shown : IsNameByte (get_or name i 0) = is.printed i 0 within in omega (arith, shown.up_to))
   | inr past ↦ rw (get_or_past name i 0 past) (omega arith)
 ])
-
-pub name_is_good : (name : List ℕ) (at : ℕ) → IsName name → ¬ IsBadAt name at
-name_is_good name at is bad = elim bad [
-  | inl none ↦ (let empty : length name ≡ 0 = ap length none.0 in omega (arith, is.some, empty))
-  | inr stops ↦ elim stops.0.bad [
-    | inl past ↦ omega (arith, stops.0.inside, is.short)
-    | inr byte ↦ byte (is.printed at 0 stops.0.inside)
-  ]
-]

@@ -93,9 +93,6 @@ pub record IsTakenTo (bytes rest : List ℕ) (number : ℕ) (names : List (List 
   pub goes_on : (status : ℕ) (more : List ℕ) → Runs names number (lines_of rest) status more → Runs [] 1 (lines_of bytes) status (text ++ more)
   pub room : number + length rest ≤ length bytes + 1
 
-pub taken_none : (bytes : List ℕ) → IsTakenTo bytes bytes 1 [] []
-taken_none bytes = record { goes_on = λ status more runs. runs; room = omega arith }
-
 pub taken_more : (bytes rest line left : List ℕ) (number : ℕ) (names after : List (List ℕ)) (text printed all : List ℕ)
     → lines_of rest ≡ line ∷ lines_of left → length left + 1 ≤ length rest → Takes names line after printed → all ≡ text ++ printed
     → IsTakenTo bytes rest number names text → IsTakenTo bytes left (number + 1) after all

@@ -31,16 +31,3 @@ next_totals rows calls i asked before after reply below is are direct counted =
     subst (λ cs. AreTotals rows cs after) (next_calls calls i asked below is)
     (subst (λ t. AreTotals rows (take i calls ++ asked ∷ []) t) (sym (counted direct.ending direct.canonical))
     (more (take i calls) before asked direct.ending are direct.is))
-
--- the totals of all calls
-pub all_totals : (rows : List Row) (calls : List Call) (i : ℕ) (t : Totals) → length calls ≤ i → AreTotals rows (take i calls) t → AreTotals rows calls t
-all_totals rows calls i t all are = subst (λ cs. AreTotals rows cs t) (take_all i calls all) are
-
--- totals of so many calls are totals of more
-pub of_more : (i n : ℕ) (t : Totals) → i ≤ n → AreOfFew i t → AreOfFew n t
-of_more i n t below few = record {
-  nodes = omega (arith, below, few.nodes);
-  values = omega (arith, below, few.values);
-  exceptions = omega (arith, below, few.exceptions);
-  statuses = omega (arith, below, few.statuses);
-}

@@ -16,11 +16,6 @@ IsPlay-two (a ∷ b ∷ []) second two is = (
   λ same. (string_bytes a, ap (λ w. string_bytes a ∷ w ∷ []) (sym (ap string_bytes is) ∙ same)),
 )
 
--- no words
-pub no_words : (words : List (String Global)) → length words ≡ 0 → map string_bytes words ≡ []
-no_words [] none = refl
-no_words (word ∷ words) none = absurd (omega (arith, none))
-
 second_is : (first second word : List ℕ) (more : List (List ℕ)) → HasSecond word (first ∷ second ∷ more) → second ≡ word
 second_is first second word more has = ap (λ words. get_or words 1 []) has.2
 

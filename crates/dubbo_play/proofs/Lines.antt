@@ -24,15 +24,6 @@ service_said line path method is ism same = subst (λ l. Says l (service path me
 pub call_said : (line : List ℕ) (c : Call) → IsCall c → line ≡ call_line c → Says line (call c)
 call_said line c is same = subst (λ l. Says l (call c)) (sym same) (asks c is)
 
--- a line that is none of the four says nothing of the first form
-pub unsaid : (line : List ℕ) (says : Line) → length line ≢ 0 → get_or line 0 0 ≢ 35
-    → ((path method : List ℕ) → IsWord path → IsWord method → line ≢ service_line path method)
-    → ((c : Call) → IsCall c → line ≢ call_line c) → ¬ Says line says
-unsaid _ _ some other no_service no_call empty = some refl
-unsaid _ _ some other no_service no_call (comment rest) = other refl
-unsaid _ _ some other no_service no_call (offers path method is ism) = no_service path method is ism refl
-unsaid _ _ some other no_service no_call (asks c is) = no_call c is refl
-
 -- two calls whose parts are equal
 same_call : (c d : Call) → c.path ≡ d.path → c.method ≡ d.method → c.argument ≡ d.argument → c ≡ d
 same_call c d paths methods arguments =

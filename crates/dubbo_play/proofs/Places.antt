@@ -61,14 +61,6 @@ text_there bytes text written rest at l w e = record {
   spells = subst (λ (x : List ℕ). Spelling Text text x) (sym (taken (drop at bytes) written rest at e)) (text_spells text written w);
 }
 
--- no text is left
-pub no_texts : (count : ℕ) (bytes : List ℕ) (at : ℕ) → count ≡ 0 → SkipsTexts count bytes at (Some at)
-no_texts count bytes at z texts written rest n w e = at_end texts written (n ∙ z) w
-  where
-    at_end : (texts : List (List ℕ)) (written : List ℕ) → length texts ≡ 0 → WrittenTexts texts written → Some at ≡ Some (at + length written)
-    at_end texts written n none = ap Some (sym (add-zero at))
-    at_end texts written n (more text others first later w ws) = absurd (omega arith)
-
 -- where texts are left, one is there, and the others behind it
 pub some_texts : (bytes : List ℕ) (at count : ℕ) (texts : List (List ℕ)) (written rest : List ℕ) (found all : Option ℕ) → 0 < count → length texts ≡ count → WrittenTexts texts written →
     drop at bytes ≡ written ++ rest → SkipsText bytes at found →

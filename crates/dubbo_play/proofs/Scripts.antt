@@ -1,15 +1,23 @@
 -- Scripts, read line by line.
-use Rattle.std.proofs.Common.{◌≡◌, ◌≢◌, ◌⊎◌, ◌↔◌, ℕ, ◌≤◌, List, [], ◌∷◌, ◌++◌, length, Bool, true, false, refl, sym, subst, ◌∙◌, inl, inr, arith, length-append}
+use Rattle.std.proofs.Common.{◌≡◌, ◌≢◌, ◌⊎◌, ◌↔◌, ℕ, ◌+◌, ◌≤◌, List, [], ◌∷◌, ◌++◌, length, Bool, true, false, refl, sym, subst, ◌∙◌, inl, inr, arith, length-append}
 use Rattle.std.specs.Bool.{OnTrue, OnFalse}
 use Rattle.std.specs.List.{Contains}
 use Rattle.std.proofs.lemmas.List.{append-nil}
 use Rattle.std.proofs.lemmas.List.Elements.{All-nil, All-push, Contains-append_left, Contains-push, Contains-push_cases}
 use Rattle.dubbo_play.specs.FirstForm.{Call, IsCall, AreCalls, IsWord, Line, Says, calls_in, service_line}
 use Rattle.dubbo_play.specs.FirstForm.Line.{nothing, service, call}
-use Rattle.dubbo_play.specs.FirstScript.{HaveCalls, IsOfFirstForm, MayFollow, Reads}
+use Rattle.dubbo_play.specs.FirstScript.{lines_of, HaveCalls, IsOfFirstForm, MayFollow, Reads}
 use Rattle.dubbo_play.specs.FirstScript.HaveCalls.{none, more}
-use Rattle.dubbo_play.specs.Reading.{AreRead, IsReadTo}
+use Rattle.dubbo_play.specs.Reading.{AreRead}
 use Rattle.dubbo_play.proofs.Lines.{says_once, service_bytes, call_words, service_said}
+
+-- `number` lines of the bytes have been read, and `rest` follows them
+pub record IsReadTo (bytes rest : List ℕ) (number : ℕ) (calls : List Call) (services : List (List ℕ)) : Type 0 where
+  pub before : List (List ℕ)
+  pub cut : lines_of bytes ≡ before ++ lines_of rest
+  pub counted : number ≡ length before
+  pub room : number + length rest ≤ length bytes
+  pub read : AreRead before calls services
 
 -- a line that says nothing or a call isn't a service line
 no_service : (line path method : List ℕ) (says : Line) → Says line says → IsWord path → IsWord method

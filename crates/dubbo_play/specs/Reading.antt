@@ -9,11 +9,3 @@ pub record AreRead (lines : List (List ℕ)) (calls : List Call) (services : Lis
   pub good : HaveCalls lines calls
   pub known : (path method : List ℕ) → IsWord path → IsWord method
       → Contains services (service_line path method) ↔ Contains lines (service_line path method)
-
--- `number` lines of the bytes have been read, and `rest` follows them
-pub record IsReadTo (bytes rest : List ℕ) (number : ℕ) (calls : List Call) (services : List (List ℕ)) : Type 0 where
-  pub before : List (List ℕ)
-  pub cut : lines_of bytes ≡ before ++ lines_of rest
-  pub counted : number ≡ length before
-  pub room : number + length rest ≤ length bytes
-  pub read : AreRead before calls services

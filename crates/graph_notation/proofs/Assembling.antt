@@ -2,7 +2,7 @@
 use Rattle.std.proofs.Common.{◌≡◌, ℕ, suc, ◌+◌, ◌<◌, ◌≤◌, ◌^◌, List, [], ◌∷◌, ◌++◌, length, get_or, map, reverse, refl, ap, sym, ◌∙◌, subst, arith, inl, inr, append_assoc, length-append}
 use Rattle.std.specs.Prelude.{◌-◌, Option, Some, None}
 use Rattle.std.proofs.lemmas.Bool.{cases_eq}
-use Rattle.std.proofs.lemmas.List.{append-nil, reverse-append, map-append, length-map, get_or_append_left}
+use Rattle.std.proofs.lemmas.List.{reverse-append, map-append, length-map, get_or_append_left}
 use Rattle.hessian_graph.specs.declared.value.Value.{Value}
 use Rattle.hessian_graph.specs.declared.value.Pair.{Pair}
 use Rattle.hessian_graph.specs.declared.node.Node.{Node}
@@ -13,10 +13,10 @@ use Rattle.hessian_graph.specs.Tables.{NumberBelow}
 use Rattle.hessian_graph.specs.Moving.{NamesThere, AllThere}
 use Rattle.graph_notation.specs.declared.frame.Frame.{Frame}
 use Rattle.graph_notation.specs.Machine.{shown, kind_of as frame_kind}
-use Rattle.graph_notation.specs.Built.{Grows, AreBuilt}
+use Rattle.graph_notation.specs.Built.{Grows}
 use Rattle.graph_notation.specs.declared.building.Tables.{Tables}
-use Rattle.graph_notation.specs.Naming.{NamesFit, Uses, NamesTaken, HasRoom}
-use Rattle.graph_notation.proofs.Naming.{none_used, uses_more, in_use}
+use Rattle.graph_notation.specs.Naming.{NamesFit, NamesTaken, HasRoom}
+use Rattle.graph_notation.proofs.Naming.{Uses, uses_more, in_use}
 use Rattle.hessian_graph.specs.InUse.{InOrderOfUse}
 use Rattle.graph_notation.specs.Whole.{AllGood, Fits, IsEven}
 use Rattle.graph_notation.specs.declared.element.Element.{Element}
@@ -26,7 +26,13 @@ use Rattle.hessian_graph.specs.Faults.{IsSound}
 use Rattle.hessian_graph.specs.Work.{IsClosed}
 use Rattle.hessian_graph.proofs.Rebuilding.{sound_of}
 use Rattle.graph_notation.proofs.Forming.{graph_good, closed}
-use Rattle.std.proofs.lemmas.List.{reverse-reverse}
+
+-- nodes that were built show these shapes, with names that are there
+pub record AreBuilt (types : List Text) (classes : List Class) (nodes : List Node) (shapes : List NodeShape) : Type 0 where
+  pub shapes_are : map (node_shape types classes) nodes ≡ shapes
+  pub there : AllThere types classes nodes
+  pub few_types : length types ≤ length nodes
+  pub few_classes : length classes ≤ length nodes
 
 pub pairs_more : (all left rest : List Value) (pairs : List Pair) (p : Pair) → all ≡ left ++ alternately (reverse pairs) → left ≡ rest ++ (p.key ∷ p.value ∷ []) → all ≡ rest ++ alternately (reverse (pairs ++ p ∷ []))
 pairs_more all left rest pairs p e h = e ∙ ap (λ x. x ++ alternately (reverse pairs)) h ∙ append_assoc rest (p.key ∷ p.value ∷ []) (alternately (reverse pairs)) ∙ ap (λ ps. rest ++ alternately ps) (sym (reverse-append pairs (p ∷ [])))
@@ -96,18 +102,6 @@ pub record Building (all left : List Frame) (t : Tables) (built : List Node) : T
   pub fit : NamesFit t
   pub uses : Uses (length t.types.texts.items) (length t.classes.rows.items) built
 
-none_are : (t : Tables) → t.types.texts.items ≡ [] → t.classes.rows.items ≡ [] → AreBuilt t.types.texts.items t.classes.rows.items [] []
-none_are t n m = record { shapes_are = refl; there = λ k h. absurd (omega arith); few_types = (let e = ap length n in omega (arith, e)); few_classes = (let e = ap length m in omega (arith, e)) }
-
-pub none_built : (all left : List Frame) (t : Tables) → left ≡ reverse all → NamesFit t → t.types.texts.items ≡ [] → t.classes.rows.items ≡ [] → Building all left t []
-none_built all left t e fit n m = record {
-  shapes = [];
-  whole = ap (map shown) (sym (reverse-reverse all) ∙ ap reverse (sym e));
-  are = none_are t n m;
-  fit = fit;
-  uses = subst (λ x. Uses x (length t.classes.rows.items) []) (ap length (sym n)) (subst (λ y. Uses 0 y []) (ap length (sym m)) none_used);
-}
-
 left_shapes : (left rest : List Frame) (f : Frame) → left ≡ rest ++ f ∷ [] → map shown (reverse left) ≡ shown f ∷ map shown (reverse rest)
 left_shapes left rest f e = ap (λ x. map shown (reverse x)) e ∙ ap (map shown) (reverse-append rest (f ∷ []))
 
@@ -135,9 +129,6 @@ next_room all left t built few b =
     let n = (b.are).few_types in
     let k = (b.are).few_classes in
     record { types = omega (arith, many, same, n); classes = omega (arith, many, same, k) }
-
-pub all_built : (all left : List Frame) (t : Tables) (built : List Node) → Building all left t built → left ≡ [] → map (node_shape t.types.texts.items t.classes.rows.items) built ≡ map shown all
-all_built all left t built b e = (b.are).shapes_are ∙ sym (b.whole ∙ ap (λ x. b.shapes ++ map shown (reverse x)) e ∙ append-nil b.shapes)
 
 parts_with : List Value → List Node → Tables → Parts
 parts_with roots nodes t = record { roots = roots; nodes = nodes; types = t.types.texts.items; classes = t.classes.rows.items }

@@ -87,9 +87,6 @@ colon_value : (bound k : ℕ) → ReadsBelow bound k → (nodes : List NodeShape
 colon_value bound k reads nodes f under [] t h done a low = not_done (at nodes f under places.Value) t h done refl
 colon_value bound k reads nodes f under (e ∷ es) t h done a low = reads nodes f under places.Value e es t refl (λ x. unequal x) h done a (omega arith)
 
-joins : (a b c d : List Element) → a ≡ b ++ (Sign Colon ∷ c) → c ≡ d → a ≡ b ++ (Sign Colon ∷ d)
-joins a b c d e e' = rw (← e') e
-
 -- a key and its value
 pair_read : (bound k : ℕ) → ReadsBelow bound k → (nodes : List NodeShape) (f : Frame) (under : List Frame) (place : Place) (e : Element) (es : List Element) (t : State) → form_of f.head ≡ Pairs → f.keyed ≡ false → IsOpen place → (may_end place f.keyed ≡ true → IsNoEnd e) → run bound (at nodes f under place) (e ∷ es) ≡ Ok t → Done t → AllForms (e ∷ es) → length es < k → EntryRead bound nodes f under (e ∷ es) t
 pair_read bound k reads nodes f under place e es t form free open' start h done a low =

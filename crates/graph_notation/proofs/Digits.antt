@@ -5,13 +5,13 @@ use Rattle.std.specs.List.{flat_map}
 use Rattle.std.specs.Char.{encode_utf8, IsScalar}
 use lib.Utf8.{scalar}
 use Rattle.std.proofs.lemmas.Bool.{cases_Bool, ne_eqb, eqb-true, eqb-false, and_parts, ltb-true, lt-ltb}
-use Rattle.std.proofs.lemmas.List.{append-nil, drop_all}
+use Rattle.std.proofs.lemmas.List.{drop_all}
 use Rattle.std.proofs.Math.Nat.{pow-suc}
 use Rattle.graph_notation.specs.declared.contents.Mode.{Mode}
 use Rattle.graph_notation.specs.declared.contents.Mode.TheVariants as modes
 use Rattle.graph_notation.specs.Elements.{hex_digit, hex_pair, hex_value, is_control, Quoted}
 use Rattle.graph_notation.specs.Elements.Quoted.{none, plain, quote, backslash, code}
-use Rattle.graph_notation.specs.Unquoting.{digit_of, Turn, one_digit, turn, behind, turned, ended, unquoted, paired, unhexed}
+use Rattle.graph_notation.specs.Unquoting.{digit_of, Turn, one_digit, turn, behind, turned, unquoted, paired, unhexed}
 
 pub digit_back : (d : ℕ) → d < 16 → digit_of (hex_digit d) ≡ Some d
 digit_back d h = grind arith
@@ -43,26 +43,6 @@ pub behind_none : (r : Option (List ℕ)) → behind [] r ≡ r
 behind_none None = refl
 behind_none (Some bs) = refl
 
--- a byte goes on
-pub byte_on : (inner : List ℕ) (i : ℕ) (m next : Mode) (old new adds : List ℕ) → i < length inner → unquoted modes.Plain inner ≡ behind old (unquoted m (drop i inner)) → turn m (get_or inner i 0) ≡ Some (record { mode = next; adds = adds }) → new ≡ old ++ adds → unquoted modes.Plain inner ≡ behind new (unquoted next (drop (i + 1) inner))
-byte_on inner i m next old new adds h before e n =
-    before ∙ ap (λ x. behind old (unquoted m x)) (drop-cons inner i 0 h)
-    ∙ ap (λ t. behind old (turned t (λ k. unquoted k (drop (suc i) inner)))) e
-    ∙ behind_behind old adds (unquoted next (drop (suc i) inner))
-    ∙ ap (λ x. behind x (unquoted next (drop (suc i) inner))) (sym n)
-    ∙ ap (λ x. behind new (unquoted next (drop x inner))) (sym (add-one i))
-
-pub byte_off : (inner : List ℕ) (i : ℕ) (m : Mode) (old : List ℕ) → i < length inner → unquoted modes.Plain inner ≡ behind old (unquoted m (drop i inner)) → turn m (get_or inner i 0) ≡ None → unquoted modes.Plain inner ≡ None
-byte_off inner i m old h before e =
-    before ∙ ap (λ x. behind old (unquoted m x)) (drop-cons inner i 0 h)
-    ∙ ap (λ t. behind old (turned t (λ k. unquoted k (drop (suc i) inner)))) e
-
-pub bytes_end : (inner : List ℕ) (i : ℕ) (m : Mode) (old : List ℕ) → length inner ≤ i → unquoted modes.Plain inner ≡ behind old (unquoted m (drop i inner)) → unquoted modes.Plain inner ≡ behind old (ended m)
-bytes_end inner i m old h before = before ∙ ap (λ x. behind old (unquoted m x)) (drop_all i inner h)
-
-pub whole_text : (old : List ℕ) → behind old (ended modes.Plain) ≡ Some old
-whole_text old = ap Some (append-nil old)
-
 -- a pair goes on
 pair_drop : (ds : List ℕ) (i : ℕ) → i + 1 < length ds → drop i ds ≡ get_or ds i 0 ∷ get_or ds (i + 1) 0 ∷ drop (i + 2) ds
 pair_drop ds i h =
@@ -84,9 +64,6 @@ one_left ds i h = ap unhexed (drop-cons ds i 0 (omega arith) ∙ ap (λ x. get_o
 
 pub odd_end : (ds : List ℕ) (i : ℕ) (old : List ℕ) → i + 1 ≡ length ds → unhexed ds ≡ behind old (unhexed (drop i ds)) → unhexed ds ≡ None
 odd_end ds i old h before = before ∙ ap (behind old) (one_left ds i h)
-
-pub even_end : (ds : List ℕ) (i : ℕ) (old : List ℕ) → i ≡ length ds → unhexed ds ≡ behind old (unhexed (drop i ds)) → unhexed ds ≡ Some old
-even_end ds i old h before = before ∙ ap (λ x. behind old (unhexed x)) (drop_all i ds (omega arith)) ∙ ap Some (append-nil old)
 
 -- Contents are exactly those of the definition.
 run_digits : (ds : List ℕ) (n v : ℕ) (rest : List ℕ) → All (λ d. d < 16) ds → n + length ds ≤ 6 → unquoted (modes.Digits n v) (map hex_digit ds ++ rest) ≡ unquoted (modes.Digits (n + length ds) (hex_value v ds)) rest

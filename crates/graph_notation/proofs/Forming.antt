@@ -12,7 +12,6 @@ use Rattle.hessian_graph.specs.Canon.{Visit, IsCanon, in_order, moved, renumbere
 use Rattle.hessian_graph.specs.Canon.Visit.{done, plain as visit_plain, again as visit_again, first as visit_first}
 use Rattle.hessian_graph.specs.Work.{NamesBelow, IsClosed}
 use Rattle.hessian_graph.proofs.Places.{place_kept, place_new, place_other}
-use Rattle.hessian_graph.proofs.Visits.{one_visit}
 use Rattle.graph_notation.specs.declared.element.Element.{Element}
 use Rattle.graph_notation.specs.Forms.{Form, Items, Pairs, Fields, IsPlain, Brackets, Spells, Entry, Joined, Entries, SpellsGraph}
 use Rattle.graph_notation.specs.Forms.Brackets.{list, typed_list, map as map_row, typed_map, object}
@@ -230,7 +229,3 @@ is_own g es s =
 
 pub is_canonical : (g : Shape) (es : List Element) → SpellsGraph g es → IsCanon g g
 is_canonical g es s = (upto (length g.nodes), visits g es s, sym (is_own g es s))
-
--- so it has no other canonical form
-pub own_form : (g form : Shape) (es : List Element) → SpellsGraph g es → IsCanon g form → form ≡ g
-own_form g form es s c = c.2 ∙ ap (in_order g) (one_visit c.1 (visits g es s)) ∙ is_own g es s

@@ -11,13 +11,17 @@ use Rattle.hessian_graph.specs.declared.node.Class.{Class}
 use Rattle.hessian_graph.specs.Shape.{Text, no_class}
 use Rattle.hessian_graph.specs.Canon.{Rises, type_number, class_number}
 use Rattle.hessian_graph.specs.InUse.{InOrderOfUse}
-use Rattle.hessian_graph.specs.Moving.{ClassFits}
 use Rattle.hessian_graph.specs.Tables.{IsIndex, IsNumber, spelled, words_of}
 use Rattle.hessian_graph.proofs.TableSteps.{old_number, grown_long}
 use Rattle.hessian_graph.proofs.Uses.{rises_both}
 use Rattle.graph_notation.specs.declared.building.Tables.{Tables}
 use Rattle.graph_notation.specs.Built.{Grows}
-use Rattle.graph_notation.specs.Naming.{NamesFit, IsShown, Uses, NamesTaken, find_key}
+use Rattle.graph_notation.specs.Naming.{NamesFit, IsShown, NamesTaken, find_key}
+
+-- nodes use so many types and classes, in the order of first use
+pub record Uses (types classes : ℕ) (nodes : List Node) : Type 0 where
+  pub types_rise : Rises 0 (flat_map type_number nodes) types
+  pub classes_rise : Rises 0 (flat_map class_number nodes) classes
 
 pub grows_none : {N : Type 0} (rows : List N) → Grows rows rows
 grows_none rows = record { more = []; is = sym (append-nil rows); one = omega arith }
@@ -40,15 +44,9 @@ number_rises none old new name n number = elim number.grown [
 pub number_small : {N : Type 0} (none : N) (old new : List N) (name : N) (n : ℕ) → IsNumber none old new name n → length old < 2 ^ 32 → n < 2 ^ 32
 number_small none old new name n number h = let l = (grown_long none old new name n number).1 in omega (arith, l, h)
 
-pub number_fits : (old new : List Class) (row : Class) (n count : ℕ) → IsNumber no_class old new row n → count ≡ length row.fields → ClassFits new n count
-number_fits old new row n count number c = record { below = number.within; count_is = c ∙ ap (λ (x : Class). length x.fields) (sym number.is) }
-
 -- a row that is there is the class's number
 pub shown_number : (rows : List Class) (n : ℕ) (class : Class) → IsShown rows n class → IsNumber no_class rows rows class n
 shown_number rows n class s = old_number no_class rows class n s.within s.is
-
-pub none_used : Uses 0 0 []
-none_used = record { types_rise = refl; classes_rise = refl }
 
 used_more : (f : Node → List ℕ) (ns : List Node) (n : Node) (a b : ℕ) → Rises 0 (flat_map f ns) a → Rises a (f n) b → Rises 0 (flat_map f (ns ++ n ∷ [])) b
 used_more f ns n a b r s =

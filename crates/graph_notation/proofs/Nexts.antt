@@ -127,13 +127,6 @@ ends_object bound nodes f g under place u h = ended nodes f g under place (is_ob
 pub no_end_outside : (fits : Bool) (nodes : List NodeShape) (f : Frame) (place : Place) (u : State) → end_step fits (at nodes f [] place) ≡ Ok u → ⊥
 no_end_outside fits nodes f place u h = elim (chosen (may_end place f.keyed && fits) (Err Bad) (Err Bad) u h) [ inl x ↦ cc | inr x ↦ cc ]
 
--- no node ends where it may not
-pub no_end_here : (fits : Bool) (s : State) (u : State) → may_end s.place s.frame.keyed ≡ false → end_step fits s ≡ Ok u → ⊥
-no_end_here fits s u e h = elim (chosen (may_end s.place s.frame.keyed && fits) (closed s.under s) (Err Bad) u h) [
-  | inl x ↦ let both = (and_parts (may_end s.place s.frame.keyed) fits x.0).0 in unequal (sym e ∙ both)
-  | inr x ↦ cc
-]
-
 -- an element that is refused leads nowhere
 pub refused : {A : Type 0} (bound : ℕ) (r : Result State Cause) (es : List Element) (t : State) (c : Cause) → r ≡ Err c → and_then r (λ x. run bound x es) ≡ Ok t → A
 refused bound (Ok u) es t c e h = cc

@@ -95,9 +95,6 @@ seg_first a b c = append_assoc a b c
 cut_first : (a a' b b' : List NodeShape) → a ≡ a' → a ++ b ≡ a' ++ b' → b ≡ b'
 cut_first a a' b b' e h = (fronts a b a' b' (ap length e) h).1
 
-abbrev joins : List NodeShape → List NodeShape → List NodeShape → List NodeShape → Type 0
-joins seg seg' rest rest' = seg ++ rest ≡ seg' ++ rest'
-
 mutual
   pub one_value : {v v' : Value} {n n' : ℕ} {seg seg' : List NodeShape} {es es' : List Element} (rest rest' : List NodeShape) → Spells v n seg es → Spells v' n' seg' es' → v ≡ v' → n ≡ n' → seg ++ rest ≡ seg' ++ rest' → SameSpelling seg seg' es es'
   one_value rest rest' (plain n v h) (plain n' v' h') e m j = record { nodes = refl; elements = ap (λ x. Plain x ∷ []) e }

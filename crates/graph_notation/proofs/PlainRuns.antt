@@ -1,6 +1,6 @@
 -- Runs of bytes that stand for themselves, and of word bytes.
-use Rattle.std.proofs.Common.{◌≡◌, ℕ, zero, suc, ◌+◌, ◌*◌, ◌-◌, ◌<◌, ◌≤◌, Bool, true, false, List, [], ◌∷◌, ◌++◌, length, get_or, take, drop, refl, ap, sym, ◌∙◌, subst, arith, inl, inr, drop-cons, length-drop}
-use Rattle.std.specs.Prelude.{nat_eq, ◌||◌, Option, Some, None}
+use Rattle.std.proofs.Common.{◌≡◌, ℕ, zero, suc, ◌+◌, ◌-◌, ◌<◌, ◌≤◌, Bool, true, false, List, [], ◌∷◌, ◌++◌, length, get_or, take, drop, refl, ap, sym, ◌∙◌, subst, arith, inl, inr, drop-cons, length-drop}
+use Rattle.std.specs.Prelude.{nat_eq, ◌||◌, Some}
 use Rattle.std.proofs.lemmas.Bool.{cases_lt}
 use Rattle.std.proofs.lemmas.List.{length-take-le, get_or-take, get_or-drop}
 use Rattle.graph_notation.specs.declared.contents.Mode.{Mode}
@@ -8,7 +8,7 @@ use Rattle.graph_notation.specs.declared.contents.Mode.TheVariants as modes
 use Rattle.graph_notation.specs.Tokens.{is_word_byte}
 use Rattle.graph_notation.specs.Lexing.{word_run, closing}
 use Rattle.graph_notation.specs.Elements.{is_control}
-use Rattle.graph_notation.specs.Unquoting.{is_special, ArePlain, turn, turned, behind, unquoted, digit_of, paired, below_16}
+use Rattle.graph_notation.specs.Unquoting.{is_special, ArePlain, turn, turned, behind, unquoted}
 use Rattle.graph_notation.proofs.Cutting.{run_on, quote_on}
 use Rattle.graph_notation.proofs.Digits.{behind_behind, behind_none}
 
@@ -27,21 +27,6 @@ block_more test value text from at size n is within before here k low h = elim (
 
 pub plain_block : (text : List ℕ) (from at size : ℕ) → size ≡ 32 → at + 32 ≤ length text → ArePlain text from at → ((k : ℕ) → k < length (take size (drop at text)) → is_special (get_or (take size (drop at text)) k 0) ≡ false) → ArePlain text from (at + 32)
 plain_block text from at size is within before here = block_more is_special false text from at size 32 is within before here
-
-pub plain_none : (text : List ℕ) (at : ℕ) → ArePlain text at at
-plain_none text at k low h = absurd (omega (arith, low, h))
-
-pub plain_one : (text : List ℕ) (from at : ℕ) → ArePlain text from at → is_special (get_or text at 0) ≡ false → ArePlain text from (at + 1)
-plain_one text from at before here k low h = elim (cases_lt k at) [
-  | inl l ↦ before k low l
-  | inr l ↦ let e : at ≡ k = omega (arith, h, l) in subst (λ j. is_special (get_or text j 0) ≡ false) e here
-]
-
-pub plain_both : (text : List ℕ) (a b c : ℕ) → ArePlain text a b → ArePlain text b c → ArePlain text a c
-plain_both text a b c p q k low h = elim (cases_lt k b) [
-  | inl l ↦ p k low l
-  | inr l ↦ q k (omega arith) h
-]
 
 or_false : (a b : Bool) → (a || b) ≡ false → (a ≡ false) × (b ≡ false)
 or_false false b e = (refl, e)
@@ -119,23 +104,3 @@ content_run inner i j m old new low h p n before =
     ∙ ap (λ x. behind x (unquoted modes.Plain (drop (i + (j - i)) inner))) (sym n)
     ∙ ap (λ k. behind new (unquoted modes.Plain (drop k inner))) e
     ∙ ap (λ k. behind new (unquoted k (drop j inner))) (sym p.0)
-
-below_is : (n : ℕ) → n < 16 → below_16 n ≡ Some n
-below_is n h = grind (arith)
-
--- two digits write a byte
-pub two_digits : (a b h l : ℕ) (rest : Option (List ℕ)) → digit_of a ≡ below_16 h → digit_of b ≡ below_16 l → h < 16 → l < 16 → paired (digit_of a) (digit_of b) rest ≡ behind ((h * 16 + l) ∷ []) rest
-two_digits a b h l rest e f p q = ap (λ x. paired x (digit_of b) rest) (e ∙ below_is h p) ∙ ap (λ x. paired (Some h) x rest) (f ∙ below_is l q)
-
-below_not : (n : ℕ) → 16 ≤ n → below_16 n ≡ None
-below_not n h = grind (arith)
-
-paired_none : (o : Option ℕ) (rest : Option (List ℕ)) → paired o None rest ≡ None
-paired_none None rest = refl
-paired_none (Some h) rest = refl
-
-pub no_first : (a b h : ℕ) (rest : Option (List ℕ)) → digit_of a ≡ below_16 h → 16 ≤ h → paired (digit_of a) (digit_of b) rest ≡ None
-no_first a b h rest e p = ap (λ x. paired x (digit_of b) rest) (e ∙ below_not h p)
-
-pub no_second : (a b l : ℕ) (rest : Option (List ℕ)) → digit_of b ≡ below_16 l → 16 ≤ l → paired (digit_of a) (digit_of b) rest ≡ None
-no_second a b l rest e p = ap (λ x. paired (digit_of a) x rest) (e ∙ below_not l p) ∙ paired_none (digit_of a) rest

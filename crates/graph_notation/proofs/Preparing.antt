@@ -1,5 +1,5 @@
 -- Texts that are prepared one by one.
-use Rattle.std.proofs.Common.{◌≡◌, ℕ, ◌+◌, ◌<◌, List, [], ◌∷◌, ◌++◌, length, get_or, refl, ap, sym, ◌∙◌, subst, arith, inl, inr, length-append}
+use Rattle.std.proofs.Common.{◌≡◌, ℕ, ◌+◌, ◌<◌, List, [], ◌∷◌, ◌++◌, length, get_or, ap, sym, ◌∙◌, subst, arith, inl, inr, length-append}
 use Rattle.std.proofs.lemmas.Bool.{cases_lt}
 use Rattle.std.proofs.lemmas.List.{get_or_default}
 use Rattle.hessian_graph.specs.declared.node.Class.{Class}
@@ -7,9 +7,6 @@ use Rattle.hessian_graph.specs.Shape.{no_class}
 use Rattle.hessian_graph.proofs.TableSteps.{front_get, last_get}
 use Rattle.graph_notation.specs.declared.class_texts.ClassTexts.{ClassTexts}
 use Rattle.graph_notation.specs.Preparing.{EachAt, AreTexts, HaveFirst}
-
-pub each_none : {T : Type 0} (Fits : ℕ → T → Type 0) → EachAt Fits 0 []
-each_none Fits = record { count = refl; each = λ k d l. absurd (omega (arith, l)) }
 
 -- one more
 pub each_more : {T : Type 0} (Fits : ℕ → T → Type 0) (n : ℕ) (xs : List T) (x : T) → EachAt Fits n xs → Fits n x → EachAt Fits (n + 1) (xs ++ x ∷ [])

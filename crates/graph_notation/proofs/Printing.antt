@@ -197,18 +197,9 @@ work_further g t stack ts h e =
     let top : on_stack g (reverse ts) ≡ suc (length (values_at g t.node) - (t.at + 1)) + on_stack g (reverse stack) = ap (λ x. on_stack g (reverse x)) e ∙ ap (on_stack g) (reverse-append stack (record { node = t.node; at = t.at + 1 } ∷ [])) in
     omega (arith, top, h)
 
-pub work_popped : (g : Shape) (t : Step) (stack ts : List Step) → stack ≡ ts ++ t ∷ [] → suc (on_stack g (reverse ts) + (length (values_at g t.node) - t.at)) ≡ on_stack g (reverse stack)
-work_popped g t stack ts e =
-    let top : on_stack g (reverse stack) ≡ suc (length (values_at g t.node) - t.at) + on_stack g (reverse ts) = ap (λ x. on_stack g (reverse x)) e ∙ ap (on_stack g) (reverse-append ts (t ∷ [])) in
-    omega (arith, top)
-
 -- as much is left to do where the stack and the nodes that have begun are the same
 pub same_work : (g : Shape) (p q : Press) → p.stack ≡ q.stack → p.begun ≡ q.begun → work g p ≡ work g q
 same_work g p q stack begun = ap (λ n. unbegun (drop n g.nodes) + on_stack g (reverse p.stack.items)) begun ∙ ap (λ ts. unbegun (drop q.begun g.nodes) + on_stack g (reverse ts.items)) stack
-
--- a step on top of the stack
-pub on_top : (g : Shape) (text : List ℕ) (begun roots : ℕ) (t : Step) (stack ts : List Step) → stack ≡ ts ++ t ∷ [] → PressedOn g text begun roots (reverse stack) → PressedOn g text begun roots (t ∷ reverse ts)
-on_top g text begun roots t stack ts e p = subst (PressedOn g text begun roots) (ap reverse e ∙ reverse-append ts (t ∷ [])) p
 
 pub from_top : (g : Shape) (text : List ℕ) (begun roots : ℕ) (t : Step) (stack ts : List Step) → stack ≡ ts ++ t ∷ [] → PressedOn g text begun roots (t ∷ reverse ts) → PressedOn g text begun roots (reverse stack)
 from_top g text begun roots t stack ts e p = subst (PressedOn g text begun roots) (sym (ap reverse e ∙ reverse-append ts (t ∷ []))) p

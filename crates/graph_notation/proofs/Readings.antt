@@ -1,5 +1,5 @@
 -- What a token is by itself.
-use Rattle.std.proofs.Common.{◌≡◌, ◌≢◌, ℕ, ℤ, suc, ◌+◌, ◌-◌, ◌<◌, ◌^◌, true, false, List, [], ◌∷◌, ◌++◌, length, get_or, take, drop, refl, ap, sym, ◌∙◌, subst, arith, length-append}
+use Rattle.std.proofs.Common.{◌≡◌, ◌≢◌, ℕ, ℤ, ◌<◌, ◌^◌, true, false, List, [], ◌∷◌, ◌++◌, length, get_or, refl, ap, sym, ◌∙◌, subst, arith}
 use Rattle.std.specs.Prelude.{codes, decimal, Option, Some, None, FitsSigned, All, MatchOption}
 use Rattle.std.specs.Fmt.{signed_decimal}
 use Rattle.std.specs.Int.{w32, w64}
@@ -36,18 +36,6 @@ one_byte [] h = absurd (omega arith)
 one_byte (b ∷ []) h = refl
 one_byte (b ∷ c ∷ more) h = absurd (omega arith)
 
-pub first_is : (token : List ℕ) → 0 < length token → token ≡ get_or token 0 0 ∷ drop 1 token
-first_is [] h = absurd (omega arith)
-first_is (b ∷ bs) h = refl
-
--- the last byte apart
-pub last_is : (token : List ℕ) → 0 < length token → token ≡ take (length token - 1) token ++ get_or token (length token - 1) 0 ∷ []
-last_is [] h = absurd (omega arith)
-last_is (b ∷ []) h = refl
-last_is (b ∷ c ∷ more) h =
-    let n : length (b ∷ c ∷ more) - 1 ≡ suc (length (c ∷ more) - 1) = omega arith in
-    rw n (ap (λ x. b ∷ x) (last_is (c ∷ more) (omega arith)))
-
 pub lasts : (xs ys : List ℕ) (b c : ℕ) → xs ++ b ∷ [] ≡ ys ++ c ∷ [] → (xs ≡ ys) × (b ≡ c)
 lasts [] [] b c e = (refl, (cc))
 lasts [] (y ∷ []) b c e = cc
@@ -59,13 +47,6 @@ lasts (x ∷ xs) (y ∷ ys) b c e =
     let both = lasts xs ys b c t in
     let front : xs ≡ ys = both.0 in
     ((cc), both.1)
-
-pub same_last : (token digits : List ℕ) → token ≡ digits ++ 0x4c ∷ [] → (0 < length token) × (get_or token (length token - 1) 0 ≡ 0x4c) × (take (length token - 1) token ≡ digits)
-same_last token digits e =
-    let n : length token ≡ length digits + 1 = ap length e ∙ length-append digits (0x4c ∷ []) in
-    let some : 0 < length token = omega arith in
-    let both = lasts (take (length token - 1) token) digits (get_or token (length token - 1) 0) 0x4c (sym (last_is token some) ∙ e) in
-    (some, both.1, both.0)
 
 pub reads_null : (token : Token) → token ≡ codes "null" → Reads token (Plain values.Null)
 reads_null token e = subst (λ t. Reads t (Plain values.Null)) (sym e) null
@@ -113,9 +94,6 @@ no_content token none' text r = by_row r refl refl
     by_row (words inner text' q u) h k = none' inner text' (sym h) q u
     by_row (reference n digits low is) h k = cc
     by_row (sign mark) h k = cc
-
-pub no_quotes : (token : Token) → ((inner : List ℕ) → token ≢ 0x22 ∷ (inner ++ 0x22 ∷ [])) → (text : List ℕ) → Reads token (Words text) → ⊥
-no_quotes token h text r = no_content token (λ inner text' e q u. h inner e) text r
 
 pub bad_content : (token inner : List ℕ) → token ≡ 0x22 ∷ (inner ++ 0x22 ∷ []) → unquoted modes.Plain inner ≡ None → (text : List ℕ) → Reads token (Words text) → ⊥
 bad_content token inner e h text r = no_content token (λ inner' text' e' q u. let same : inner ≡ inner' = insides inner inner' (sym e ∙ e') in let some : None ≡ Some text' = sym h ∙ ap (unquoted modes.Plain) same ∙ unquoted_where q in absurd (cc)) text r

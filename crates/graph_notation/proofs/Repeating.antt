@@ -1,9 +1,8 @@
 -- What single writers print.
-use Rattle.std.proofs.Common.{◌≡◌, ℕ, zero, suc, ◌<◌, List, [], ◌∷◌, ◌++◌, get_or, ap, sym, ◌∙◌, arith, append_assoc}
+use Rattle.std.proofs.Common.{ℕ, zero, suc, ◌<◌, List, [], ◌∷◌, ◌++◌, get_or, ap, sym, ◌∙◌, arith, append_assoc}
 use Rattle.std.specs.Prelude.{All}
 use Rattle.std.specs.List.{flat_map}
 use Rattle.std.proofs.lemmas.Grind.{flat_map-append}
-use Rattle.std.proofs.lemmas.List.{append-nil}
 use Rattle.std.proofs.lemmas.List.Elements.{All-append}
 use Rattle.graph_notation.specs.declared.element.Element.{Element}
 use Rattle.graph_notation.specs.declared.element.Element.TheVariants.{Plain, Words, Reference, Sign}
@@ -16,18 +15,6 @@ pub small_bytes : (xs : List ℕ) → ((i : ℕ) → get_or xs i 0 < 256) → Al
 small_bytes [] h k d l = absurd (omega arith)
 small_bytes (x ∷ xs) h zero d l = h 0
 small_bytes (x ∷ xs) h (suc k) d l = small_bytes xs (λ i. h (suc i)) k d (omega arith)
-
--- nothing is printed
-pub prints_none : (old : List ℕ) → Prints old [] old
-prints_none old = record { sound = λ k d l. absurd (omega arith); written = sym (append-nil old) }
-
--- one element
-pub prints_one : (old new : List ℕ) (e : Element) → IsSoundElement e → new ≡ old ++ printed e → Prints old (e ∷ []) new
-prints_one old new e h w = record { sound = sound; written = w ∙ ap (λ z. old ++ z) (sym (append-nil (printed e))) }
-  where
-    sound : All IsSoundElement (e ∷ [])
-    sound zero d l = h
-    sound (suc k) d l = absurd (omega arith)
 
 -- some elements, and then others
 pub prints_both : {old mid new : List ℕ} {es fs : List Element} → Prints old es mid → Prints mid fs new → Prints old (es ++ fs) new

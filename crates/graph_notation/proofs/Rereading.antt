@@ -1,6 +1,6 @@
 -- What is printed is read back.
 use Rattle.std.proofs.Common.{◌≡◌, ◌≢◌, ℕ, ℤ, zero, suc, ◌+◌, ◌/◌, ◌%◌, ◌<◌, ◌≤◌, ◌^◌, Bool, true, false, List, [], ◌∷◌, ◌++◌, length, map, refl, ap, sym, ◌∙◌, subst, arith, inl, inr, append_assoc, length-append}
-use Rattle.std.specs.Prelude.{nat_eq, nat_lt, nat_le, ◌&&◌, ◌||◌, if◌then◌else◌, decimal, pos, negsuc, All}
+use Rattle.std.specs.Prelude.{nat_eq, nat_lt, nat_le, ◌&&◌, ◌||◌, decimal, pos, negsuc, All}
 use Rattle.std.specs.Fmt.{signed_decimal}
 use Rattle.std.specs.Int.Signed.{mag}
 use Rattle.std.specs.List.{flat_map}
@@ -152,10 +152,6 @@ quote_byte b e after text q = let is : b ≡ 0x22 = eqb-true b 0x22 e in subst (
 slash_byte : (b : ℕ) → nat_eq b 0x5c ≡ true → (after text : List ℕ) → Quoted after text → Quoted (escaped b ++ after) (b ∷ text)
 slash_byte b e after text q = let is : b ≡ 0x5c = eqb-true b 0x5c e in subst (λ x. Quoted (escaped x ++ after) (x ∷ text)) (sym is) (q_backslash after text q)
 
--- the writer's digits
-short_digits : ℕ → List ℕ
-short_digits b = if nat_lt b 16 then b ∷ [] else (b / 16) ∷ (b % 16) ∷ []
-
 record Spelt (b : ℕ) : Type 0 where
   pub digits : List ℕ
   pub low : All (λ d. d < 16) digits
@@ -218,15 +214,6 @@ quoted_is (b ∷ bs) =
         ]
       ]
     ]
-
--- each `"` that is written between quotes is escaped
-escaped_join : (a b : List ℕ) → Escaped a → Escaped b → Escaped (a ++ b)
-escaped_join a b x y = by_first x
-  where
-    by_first : {c : List ℕ} → Escaped c → Escaped (c ++ b)
-    by_first e_none = y
-    by_first (e_plain d rest q s z) = e_plain d (rest ++ b) q s (by_first z)
-    by_first (e_escape d rest z) = e_escape d (rest ++ b) (by_first z)
 
 -- a content without a raw quote is escaped
 quoted_escaped : {inner text : List ℕ} → Quoted inner text → Escaped inner

@@ -5,7 +5,6 @@ use Rattle.std.specs.Fmt.{signed_decimal}
 use Rattle.std.specs.Int.{w32}
 use Rattle.std.specs.Int.RustNames.{FitsSigned}
 use Rattle.std.proofs.lemmas.Fmt.{decimal_digit, decimal_step, decimal_injective, signed_decimal_injective}
-use Rattle.std.proofs.lemmas.List.{take_all}
 use Rattle.std.proofs.Math.Seq.{take-suc}
 
 decimal_push : (v d : ℕ) → 0 < v → d < 10 → v * 10 + d < 2 ^ 64 → decimal (v * 10 + d) ≡ decimal v ++ (0x30 + d) ∷ []
@@ -28,9 +27,6 @@ digit_more bytes at v d h before p l e f =
     ap (λ n. take n bytes) (add-one at) ∙ take-suc bytes at 0 h
     ∙ ap (λ x. x ++ get_or bytes at 0 ∷ []) before ∙ ap (λ b. decimal v ++ b ∷ []) e
     ∙ sym (decimal_push v d p l (omega arith))
-
-pub all_digits : (bytes : List ℕ) (at v : ℕ) → length bytes ≤ at → take at bytes ≡ decimal v → bytes ≡ decimal v
-all_digits bytes at v h e = sym (take_all at bytes h) ∙ e
 
 pub too_large : (n : ℕ) (bytes : List ℕ) → n < 1000000000000000000 → bytes ≡ decimal n → 2147483648 ≤ n → (z : ℤ) → FitsSigned w32 z → bytes ≢ signed_decimal z
 too_large n bytes small is high z fits same =

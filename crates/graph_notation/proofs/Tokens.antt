@@ -42,9 +42,6 @@ closing_escape no_bytes = refl
 closing_escape (plain b more q s x) = plain_step b (more ++ 0x5c ∷ []) q s ∙ ap suc (closing_escape x)
 closing_escape (escape b more x) = ap (λ n. suc (suc n)) (closing_escape x)
 
-quote_length : (bs : List ℕ) → token_length (0x22 ∷ bs) ≡ suc (closing false bs)
-quote_length bs = refl
-
 pub length_is : {token rest : List ℕ} → IsToken token rest → token_length (token ++ rest) ≡ length token
 length_is (word b more rest a n) = if_true (is_word_byte b) (suc (word_run (more ++ rest))) (if nat_eq b 0x22 then suc (closing false (more ++ rest)) else 1) a.0 ∙ ap suc (run_is more rest a.1 n)
 length_is (whole inner rest x) = ap (λ n. suc n) (ap (closing false) (append_assoc inner (0x22 ∷ []) rest) ∙ closing_is rest x ∙ sym (length-append inner (0x22 ∷ []) ∙ (omega arith)))

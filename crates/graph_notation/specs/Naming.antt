@@ -1,6 +1,5 @@
 -- Tables of names in the order of first use, and what the nodes that are put together use of them.
 use Rattle.std.specs.Prelude.{◌≡◌, ℕ, ◌<◌, ◌^◌, List, Option, length, get_or}
-use Rattle.std.specs.List.{flat_map}
 use Rattle.std.specs.Ordering.{nat_cmp}
 use Rattle.std.specs.Cmp.Lexicographic.{slice_cmp}
 use Rattle.std.specs.BTreeMap.{get_by_text, get_by}
@@ -39,11 +38,6 @@ pub record IsShown (rows : List Class) (n : ℕ) (class : Class) : Type 0 where
 pub record HasRoom (t : Tables) : Type 0 where
   pub types : length t.types.texts.items < 2 ^ 32
   pub classes : length t.classes.rows.items < 2 ^ 32
-
--- nodes use so many types and classes, in the order of first use
-pub record Uses (types classes : ℕ) (nodes : List Node) : Type 0 where
-  pub types_rise : Rises 0 (flat_map type_number nodes) types
-  pub classes_rise : Rises 0 (flat_map class_number nodes) classes
 
 -- the tables have grown by the names of this node, where they lacked them
 pub record NamesTaken (old new : Tables) (node : Node) : Type 0 where

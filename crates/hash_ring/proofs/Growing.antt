@@ -3,15 +3,14 @@ use Rattle.std.proofs.Common.{◌≡◌, ℕ, ◌+◌, ◌<◌, ◌≤◌, ◌�
 use Rattle.std.specs.Prelude.{Result, Ok, Err, OnErr}
 use Rattle.std.specs.Fmt.{decimal}
 use Rattle.std.proofs.lemmas.Bool.{cases_lt}
-use Rattle.hash_ring.specs.Points.{Pair, IsPointOf, part}
-use Rattle.hash_ring.specs.Held.{GrewBy, GrewByAll, LostName, HaveSamePairs, IsApart, IsPointIn, IsPointBelow}
+use Rattle.hash_ring.specs.Points.{Pair, IsPointOf, QUARTERS, part}
+use Rattle.hash_ring.specs.Held.{GrewBy, GrewByAll, LostName, HaveSamePairs, IsApart, IsPointIn}
 
--- nothing came
-pub grew_by_none : (Kind : Pair → Type 0) (held : List Pair) → GrewBy Kind held held
-grew_by_none Kind held = record { stayed = λ pair there. there; other = λ pair there. inl there }
-
-pub grew_by_all_of_none : (Kind : Pair → Type 0) (held : List Pair) → ((pair : Pair) → Kind pair → ⊥) → GrewByAll Kind held held
-grew_by_all_of_none Kind held none = record { grew = grew_by_none Kind held; came = λ pair kind. absurd (none pair kind) }
+-- the pair is a point that one of the first rounds gives
+pub record IsPointBelow (name : List ℕ) (rounds : ℕ) (pair : Pair) : Type 0 where
+  pub round : ℕ
+  pub in_rounds : round < rounds
+  pub point : IsPointIn name round QUARTERS pair
 
 -- one kind came after another
 pub grew_twice : (First Then Kind : Pair → Type 0) (old middle new : List Pair)
@@ -52,9 +51,6 @@ grew_by_all_as Kind Other old new there back g = record {
 
 -- ---- the quarters of one round
 
-pub in_none : (name : List ℕ) (round : ℕ) (pair : Pair) → IsPointIn name round 0 pair → ⊥
-in_none name round pair point = let below = point.in_quarters in omega arith
-
 -- the pair that one quarter gives
 abbrev pub IsAt : Pair → Pair → Type 0
 IsAt one pair = one ≡ pair
@@ -85,9 +81,6 @@ in_each name round quarter number is pair point = elim (cases_lt point.quarter q
     pair_is e f = (ap (λ n. record { number = n; name = name }) e) ∙ (ap (λ t. record { number = pair.number; name = t }) f)
 
 -- ---- the rounds
-
-pub below_none : (name : List ℕ) (pair : Pair) → IsPointBelow name 0 pair → ⊥
-below_none name pair point = let below = point.in_rounds in omega arith
 
 pub below_more : (name : List ℕ) (rounds more : ℕ) → rounds ≤ more → (pair : Pair) → IsPointBelow name rounds pair → IsPointBelow name more pair
 below_more name rounds more le pair point = record { round = point.round; in_rounds = (let below = point.in_rounds in omega arith); point = point.point }

@@ -7,7 +7,7 @@ use Rattle.std.specs.BTreeSet.{BTreeSet}
 use Rattle.std.specs.declared.string.String.{String}
 use Rattle.std.specs.Global.{Global}
 use Rattle.hash_ring.specs.declared.point.Point.{Point}
-use Rattle.hash_ring.specs.Points.{Pair, IsPoint, QUARTERS, part}
+use Rattle.hash_ring.specs.Points.{Pair, IsPoint, part}
 use Rattle.hash_ring.specs.Choice.{IsLeast}
 
 -- a stored point as a pair
@@ -33,12 +33,6 @@ pub record IsPointIn (name : List ℕ) (round : ℕ) (quarters : ℕ) (pair : Pa
   pub quarter : ℕ
   pub in_quarters : quarter < quarters
   pub is : pair.number ≡ part (name ++ decimal round) quarter
-
--- the pair is a point that one of the first rounds gives
-pub record IsPointBelow (name : List ℕ) (rounds : ℕ) (pair : Pair) : Type 0 where
-  pub round : ℕ
-  pub in_rounds : round < rounds
-  pub point : IsPointIn name round QUARTERS pair
 
 -- the old pairs stayed, and each other one is of a kind
 pub record GrewBy (Kind : Pair → Type 0) (old new : List Pair) : Type 0 where

@@ -70,9 +70,6 @@ spell_longer old new ns words e s =
       is = spelled_longer old e.more ns s.below ∙ s.is;
     })
 
-pub spell_none : (texts : List Text) → Spell texts [] []
-spell_none texts = record { below = λ k d h. absurd (omega (arith, h)); is = refl }
-
 pub spell_more : (old new : List Text) (ns : List ℕ) (words : List Text) (word : Text) (n : ℕ) → Spell old ns words → IsNumber [] old new word n → Spell new (ns ++ n ∷ []) (words ++ word ∷ [])
 spell_more old new ns words word n s number =
     let t = spell_longer old new ns words (extends_by_number old new word n number) s in

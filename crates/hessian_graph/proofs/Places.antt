@@ -74,10 +74,6 @@ place_at (x ∷ xs) n k e = elim (cases_eq n x) [
       subst (λ i. get_or (x ∷ xs) i 0 ≡ n) (sym p.2) (place_at xs n p.0 p.1)
 ]
 
--- a place is one number's
-pub place_one : (xs : List ℕ) (n m k : ℕ) → place_of n xs ≡ Some k → place_of m xs ≡ Some k → n ≡ m
-place_one xs n m k a b = sym (place_at xs n k a) ∙ place_at xs m k b
-
 -- a number of the list has a place
 pub some_place : (n : ℕ) (xs : List ℕ) (k : ℕ) → k < length xs → get_or xs k n ≡ n → (j : ℕ) × (place_of n xs ≡ Some j)
 some_place n [] k h e = absurd (omega (arith, h))

@@ -6,7 +6,7 @@ use Rattle.std.specs.Cmp.Lexicographic.{bytes_decides}
 use Rattle.std.proofs.lemmas.Bool.{cases_Bool, cases_eq, cases_lt, cond-true, cond-false}
 use Rattle.std.proofs.lemmas.List.{length-set, length-replicate, get_or-set_same, get_or-set_other}
 use Rattle.hessian_graph.specs.Shape.{Text}
-use Rattle.hessian_graph.specs.Tables.{IsIndex, IsNumber, IsKnown, Remembers}
+use Rattle.hessian_graph.specs.Tables.{IsIndex, IsNumber, IsKnown}
 use Rattle.hessian_graph.proofs.Walking.{none_at}
 
 pub front_get : {X : Type 0} (xs ys : List X) (k : ℕ) (d : X) → k < length xs → get_or (xs ++ ys) k d ≡ get_or xs k d
@@ -23,12 +23,6 @@ one_longer xs n = rw length-append refl
 
 some_is : (i j : ℕ) → ◌≡◌ {A = Option ℕ} (Some i) (Some j) → i ≡ j
 some_is i j e = cc
-
-pub empty_index : (find : List ℕ → Option ℕ) → ((text : List ℕ) → find text ≡ None) → IsIndex find []
-empty_index find none = record {
-  found = λ text i e. let bad : ◌≡◌ {A = Option ℕ} None (Some i) = sym (none text) ∙ e in cc;
-  kept = λ i h. absurd (omega (arith, h));
-}
 
 -- a new text gets the next number
 pub index_more : (find new : List ℕ → Option ℕ) (texts : List Text) (text : Text) → IsIndex find texts → find text ≡ None → ((other : List ℕ) → new other ≡ cond (bytes_eq text other) (Some (length texts)) (find other)) → IsIndex new (texts ++ text ∷ [])
@@ -65,13 +59,6 @@ index_more find new texts text old none step = record {
 pub old_number : {N : Type 0} (none : N) (table : List N) (name : N) (n : ℕ) → n < length table → get_or table n none ≡ name → IsNumber none table table name n
 old_number none table name n h e = record { within = h; is = e; grown = inl (h, refl) }
 
-pub new_number : {N : Type 0} (none : N) (old : List N) (name : N) → IsNumber none old (old ++ name ∷ []) name (length old)
-new_number none old name = record {
-  within = let long = one_longer old name in omega (arith, long);
-  is = last_get old name none;
-  grown = inr (refl, refl);
-}
-
 -- where the tables grow, what is known still shows the names
 pub known_grows : {N : Type 0} (none : N) (known : List (Option ℕ)) (old new more : List N) (name : N) (n : ℕ) → IsNumber none new more name n → IsKnown none known old new → IsKnown none known old more
 known_grows none known old new more name n number was = record {
@@ -101,12 +88,6 @@ known_more none known old new more name k n h is number was =
         | inr other ↦ grown.shows j i (sym (get_or-set_other known k j (Some n) None other) ∙ e)
       ];
     }
-
-pub known_stays : (known : List (Option ℕ)) (k n : ℕ) → get_or known k None ≡ None → Remembers known (set known k (Some n))
-known_stays known k n none j i e = elim (cases_eq j k) [
-  | inl same ↦ let bad : ◌≡◌ {A = Option ℕ} None (Some i) = sym none ∙ ap (λ x. get_or known x None) (sym same) ∙ e in cc
-  | inr other ↦ get_or-set_other known k j (Some n) None other ∙ e
-]
 
 pub grown_long : {N : Type 0} (none : N) (old new : List N) (name : N) (n : ℕ) → IsNumber none old new name n → (length new ≤ length old + 1) × (n ≤ length old)
 grown_long none old new name n number = elim number.grown [

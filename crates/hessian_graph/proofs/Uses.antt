@@ -1,9 +1,9 @@
 -- Tables of names in the order of first use.
-use Rattle.std.proofs.Common.{◌≡◌, ℕ, suc, ◌+◌, ◌<◌, ◌≤◌, List, [], ◌∷◌, ◌++◌, length, get_or, set, refl, ap, sym, ◌∙◌, subst, arith, inl, inr, take, append_assoc, length-append}
+use Rattle.std.proofs.Common.{◌≡◌, ℕ, suc, ◌+◌, ◌<◌, ◌≤◌, List, [], ◌∷◌, ◌++◌, length, get_or, refl, ap, sym, ◌∙◌, subst, arith, inl, inr, take, append_assoc}
 use Rattle.std.specs.Prelude.{Option, Some, None, IsSome, All}
 use Rattle.std.specs.List.{flat_map}
 use Rattle.std.specs.BTreeMap.{get_by_text}
-use Rattle.std.proofs.lemmas.List.{append-nil, take_more, take_all, get_or-take, length-take-le, get_or-set_same}
+use Rattle.std.proofs.lemmas.List.{append-nil, take_more, take_all, get_or-take, length-take-le}
 use Rattle.std.proofs.lemmas.Grind.{flat_map-append}
 use Rattle.hessian_graph.specs.declared.value.Value.{Value}
 use Rattle.hessian_graph.specs.declared.node.Node.{Node}
@@ -13,7 +13,7 @@ use Rattle.hessian_graph.specs.declared.parts.Parts.{Parts}
 use Rattle.hessian_graph.specs.Shape.{Text, no_vertex}
 use Rattle.hessian_graph.specs.Canon.{Rises, given_number, type_number, class_number}
 use Rattle.hessian_graph.specs.InUse.{InOrderOfUse}
-use Rattle.hessian_graph.specs.Tables.{IsIndex, IsNumber, IsKnown, spelled, words_of, find_key, Remembers, renamed_numbers}
+use Rattle.hessian_graph.specs.Tables.{IsIndex, IsKnown, spelled, words_of, find_key, Remembers, renamed_numbers}
 use Rattle.hessian_graph.specs.Moving.{TypeKnown, NodeKnown, NamesFit, AllMoved, TablesRise, NamesNext, types_used, classes_used}
 
 pub rises_both : (a b c : ℕ) (xs ys : List ℕ) → Rises a xs b → Rises b ys c → Rises a (xs ++ ys) c
@@ -28,22 +28,6 @@ renamed_both known (x ∷ xs) ys = ap (λ z. given_number (get_or known x None) 
 -- a name that is known adds none
 pub rises_known : {N : Type 0} (none : N) (known : List (Option ℕ)) (old new : List N) (k i : ℕ) → IsKnown none known old new → get_or known k None ≡ Some i → Rises (length new) (renamed_numbers known (k ∷ [])) (length new)
 rises_known none known old new k i fit e = subst (λ o. Rises (length new) (given_number o ++ []) (length new)) (sym e) (inl ((fit.shows k i e).0, refl))
-
-rises_number : {N : Type 0} (none : N) (old new : List N) (name : N) (n : ℕ) → IsNumber none old new name n → Rises (length old) (n ∷ []) (length new)
-rises_number none old new name n number = elim number.grown [
-  | inl (h, same) ↦ inl (h, ap length (sym same))
-  | inr (h, grown) ↦
-      let long : length (old ++ name ∷ []) ≡ length old + 1 = rw length-append refl in
-      let e : suc (length old) ≡ length new = sym (ap length grown ∙ long ∙ (omega arith)) in
-      inr (h, e)
-]
-
--- a name that becomes known was there or is the next
-pub rises_next : {N : Type 0} (none : N) (known : List (Option ℕ)) (old new more : List N) (name : N) (k n : ℕ) → IsKnown none known old new → k < length old → IsNumber none new more name n → Rises (length new) (renamed_numbers (set known k (Some n)) (k ∷ [])) (length more)
-rises_next none known old new more name k n fit h number =
-    let long = fit.long in
-    let at : get_or (set known k (Some n)) k None ≡ Some n = get_or-set_same known k (Some n) None (omega (arith, h, long)) in
-    subst (λ o. Rises (length new) (given_number o ++ []) (length more)) (sym at) (rises_number none new more name n number)
 
 same_option : (known more : List (Option ℕ)) (k : ℕ) → Remembers known more → (o : Option ℕ) → get_or known k None ≡ o → IsSome o → get_or more k None ≡ get_or known k None
 same_option known more k r None e s = cc

@@ -1,5 +1,5 @@
 -- Steps of a visit: what leads on from after a step leads on from before it.
-use Rattle.std.proofs.Common.{◌≡◌, ℕ, zero, suc, ◌+◌, ◌-◌, ◌<◌, ◌≤◌, List, [], ◌∷◌, ◌++◌, length, get_or, set, drop, refl, ap, sym, ◌∙◌, subst, arith, inl, inr, length-append, drop-cons, add-one}
+use Rattle.std.proofs.Common.{◌≡◌, ℕ, zero, suc, ◌+◌, ◌<◌, ◌≤◌, List, [], ◌∷◌, ◌++◌, length, get_or, set, drop, refl, ap, sym, ◌∙◌, subst, arith, inl, inr, length-append, drop-cons, add-one}
 use Rattle.std.specs.Prelude.{Option, Some, None, reverse, replicate, All}
 use Rattle.std.proofs.lemmas.Bool.{cases_eq, cases_lt, lt-ltb, le-ltb}
 use Rattle.std.proofs.lemmas.List.{reverse-append, length-set, get_or-set_same, get_or-set_other, length-replicate, replicate-append-replicate}
@@ -12,7 +12,7 @@ use Rattle.hessian_graph.specs.declared.walk.Step.{Step}
 use Rattle.hessian_graph.specs.Shape.{Shape, NodeShape, no_node, node_of, values_at}
 use Rattle.hessian_graph.specs.Canon.{Visit, place_of}
 use Rattle.hessian_graph.specs.Canon.Visit.{plain, again, first}
-use Rattle.hessian_graph.specs.Work.{HasNext, IsClosed, link_to, link_at, Job, todo, opened, went_on, not_given, unseen, on_stack, FineAt}
+use Rattle.hessian_graph.specs.Work.{HasNext, link_to, link_at, Job, todo, opened, went_on, not_given, unseen, on_stack, FineAt}
 use Rattle.hessian_graph.proofs.Places.{place_new, place_other}
 
 pub has_next : (l : Link) (P : Type 0) → P → HasNext l P
@@ -55,28 +55,6 @@ went_leads g t ts j last out l =
           let next : Visit g j.order rest out = subst (λ x. Leads g (went_on t ts x j) last out) e l in
           subst (λ x. Visit g j.order (x ++ rest) out) (sym (drop_all t.at vs past)) next
     ]
-
--- a link shows that a value stands there, and which
-pub link_more : (vs : List Value) (at : ℕ) (l : Link) → link_at vs at ≡ l → (l ≡ End → ⊥) → at < length vs
-link_more vs at l e other = elim (cases_lt at (length vs)) [
-  | inl more ↦ more
-  | inr past ↦ absurd (other (sym e ∙ (rw (le-ltb at (length vs) past) refl)))
-]
-
-names_of : (o : Option ℕ) (n : ℕ) → link_to o ≡ To n → o ≡ Some n
-names_of None n e = cc
-names_of (Some m) n e = cc
-
-pub link_names : (vs : List Value) (at n : ℕ) → link_at vs at ≡ To n → node_of (get_or vs at Null) ≡ Some n
-link_names vs at n e = elim (cases_lt at (length vs)) [
-  | inl more ↦ names_of (node_of (get_or vs at Null)) n (rw (lt-ltb at (length vs) more) at e)
-  | inr past ↦ let bad : End ≡ To n = (rw (le-ltb at (length vs) past) at e) in cc
-]
-
-pub link_below : (g : Shape) (t : Step) (n : ℕ) → IsClosed g → t.node < length g.nodes → link_at (values_at g t.node) t.at ≡ To n → n < length g.nodes
-link_below g t n closed within e =
-    let more = link_more (values_at g t.node) t.at (To n) e (λ bad. cc) in
-    closed.each t.node within t.at Null more n (link_names (values_at g t.node) t.at n e)
 
 -- a number that is given
 fewer_left : (ks : List (Option ℕ)) (n k : ℕ) → n < length ks → get_or ks n None ≡ None → suc (not_given (set ks n (Some k))) ≡ not_given ks
@@ -126,12 +104,6 @@ pub open_work : (g : Shape) (numbers : List (Option ℕ)) (order : List ℕ) (st
 open_work g numbers order stack n fine within new =
     let less = less_unseen numbers g.nodes n (length order) no_node (omega (arith, fine.numbered)) within (fine.places n within ∙ new) in
     rw (reverse-append stack (record { node = n; at = 0 } ∷ [])) (omega (arith, less))
-
-pub on_more : (g : Shape) (ts : List Step) (n i : ℕ) → i < length (values_at g n) → suc (on_stack g (reverse (ts ++ record { node = n; at = i + 1 } ∷ []))) ≡ on_stack g (reverse (ts ++ record { node = n; at = i } ∷ []))
-on_more g ts n i h = rw (reverse-append ts (record { node = n; at = i + 1 } ∷ []), reverse-append ts (record { node = n; at = i } ∷ [])) (omega arith)
-
-pub on_top : (g : Shape) (ts : List Step) (t : Step) → on_stack g (reverse (ts ++ t ∷ [])) ≡ suc (length (values_at g t.node) - t.at) + on_stack g (reverse ts)
-on_top g ts t = rw (reverse-append ts (t ∷ [])) refl
 
 pub popped : (count : ℕ) (stack rest : List Step) (t : Step) → stack ≡ rest ++ t ∷ [] → All (λ (x : Step). x.node < count) stack → t.node < count
 popped count stack rest t e all = All-get_or (λ (x : Step). x.node < count) (t ∷ []) 0 t (omega arith) (back rest (subst (All (λ (x : Step). x.node < count)) e all))

@@ -1,5 +1,5 @@
 -- The nodes that the roots lead to.
-use Rattle.std.specs.Prelude.{ℕ, ◌<◌, Contains, length}
+use Rattle.std.specs.Prelude.{ℕ, Contains}
 use Rattle.hessian_graph.specs.declared.value.Value.TheVariants.{Node}
 use Rattle.hessian_graph.specs.Shape.{Shape, values_at}
 
@@ -7,7 +7,3 @@ use Rattle.hessian_graph.specs.Shape.{Shape, values_at}
 pub data Reached (g : Shape) : ℕ → Type 0 where
   root : (n : ℕ) → Contains g.roots (Node n) → Reached g n
   onward : (m n : ℕ) → Reached g m → Contains (values_at g m) (Node n) → Reached g n
-
--- each node is reached
-abbrev pub AllReached : Shape → Type 0
-AllReached g = (n : ℕ) → n < length g.nodes → Reached g n

@@ -19,7 +19,7 @@ use Rattle.hessian_reader.specs.declared.store.Lacks.{Lacks}
 use Rattle.hessian_reader.specs.declared.store.OpenNode.{OpenNode}
 use Rattle.hessian_reader.specs.Names.{Names, and_type, and_class}
 use Rattle.hessian_reader.specs.States.{Built, State, Place, AtValue, AtDefined, AtReference, AtType, AtLength, AtClass, AtName, AtCount, AtField, ToEnd, Count, Key, Mate, sort_at, with_value, with_open, with_node, begins_node, takes_value, learns_type, learns_class, kind_named}
-use Rattle.hessian_reader.specs.Slots.{tables_of}
+use Rattle.hessian_reader.proofs.Slots.{tables_of}
 use Rattle.hessian_reader.proofs.Lacking.{Even, AreOpen, behind, to_come, Lacking, Lacks', give}
 use Rattle.hessian_reader.proofs.Opening.{LacksAll, begin}
 use Rattle.hessian_reader.proofs.Sound.{SortFits, Sound, value_nodes, value_sort, value_open, node_nodes, sort_new, sort_old}

@@ -34,7 +34,7 @@ use Rattle.hessian_reader.proofs.Lacking.{behind, Lacking, Lacks'}
 use Rattle.hessian_reader.proofs.Lacked.{give_back}
 use Rattle.hessian_reader.proofs.Opening.{MayBegin, LacksAll, begin_back, end_back}
 use Rattle.hessian_reader.proofs.Sound.{PlaceFits, Sound, sound_typed, value_nodes, value_sort, value_open, node_nodes, sort_new, sort_old}
-use Rattle.hessian_reader.specs.Slots.{tables_of}
+use Rattle.hessian_reader.proofs.Slots.{tables_of}
 use Rattle.hessian_reader.proofs.Ahead.{line_form, FormFits, Ahead, KindsAre, Has, TakesValue, value_tables, begins_tables, kinds_untyped, kinds_unclassed}
 use Rattle.hessian_reader.proofs.Ahead.Ahead.{value as a_value, defined as a_defined, reference as a_reference, type as a_type, len as a_len, class as a_class, class_name as a_class_name, field_count as a_field_count, fields as a_fields}
 use Rattle.hessian_reader.proofs.Outcomes.{ok_is, took_value, ended_there, had_room, was_below, was_natural, some_lacking}

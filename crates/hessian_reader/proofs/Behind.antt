@@ -20,7 +20,7 @@ use Rattle.hessian_reader.specs.Elements.IsElement.{number as e_number}
 use Rattle.hessian_reader.specs.Faults.{faults}
 use Rattle.hessian_reader.specs.Course.{EndsAt}
 use Rattle.hessian_reader.specs.Refusing.{IsStoppedBy}
-use Rattle.hessian_reader.specs.Slots.{open_slots, left_slots, slots_at, slots_of, tables_of}
+use Rattle.hessian_reader.proofs.Slots.{open_slots, left_slots, slots_at, slots_of, tables_of}
 use Rattle.hessian_reader.specs.States.{State, Place, AtValue, AtDefined, AtReference, AtType, AtLength, AtClass, AtName, AtCount, AtField, start, want_at, lacks_none, is_at_value, is_done}
 use Rattle.hessian_reader.specs.Steps.{take_element, Leads}
 use Rattle.hessian_reader.specs.Steps.Leads.{here, on}

@@ -14,7 +14,7 @@ use Rattle.hessian_reader.specs.declared.fault.HessianFault.TheVariants as told
 use Rattle.hessian_reader.specs.declared.course.Course.{Course}
 use Rattle.hessian_reader.specs.Codes.{scalar_element}
 use Rattle.hessian_reader.specs.Leaves.{hessian, node_limit}
-use Rattle.hessian_reader.specs.Elements.{BeginsElement}
+use Rattle.hessian_reader.proofs.Elements.{BeginsElement}
 use Rattle.hessian_reader.specs.Elements.TakesInt.{int as t_int, type as t_int_type}
 use Rattle.hessian_reader.specs.Elements.TakesText.{text as t_text}
 use Rattle.hessian_reader.specs.Elements.IsElement.{number as e_number, words as e_words}

@@ -9,10 +9,11 @@ use Rattle.hessian_graph.specs.Loose.{Leads as LooseLeads}
 use Rattle.hessian_graph.specs.Refusal.{Cause, Refused, Stops, Stopped, CutShort}
 use Rattle.hessian_reader.specs.declared.element.Want.{Want}
 use Rattle.hessian_reader.specs.Leaves.{hessian, node_limit}
-use Rattle.hessian_reader.specs.Elements.{BeginsElement, HasNoElement}
+use Rattle.hessian_reader.specs.Elements.{HasNoElement}
+use Rattle.hessian_reader.proofs.Elements.{BeginsElement}
 use Rattle.hessian_reader.specs.States.{State, start, want_at, is_done}
 use Rattle.hessian_reader.specs.Steps.{Leads}
-use Rattle.hessian_reader.specs.Slots.{slots_of, tables_of}
+use Rattle.hessian_reader.proofs.Slots.{slots_of, tables_of}
 use Rattle.hessian_reader.specs.Faults.{faults}
 use Rattle.hessian_reader.proofs.Keeping.{sound_start}
 use Rattle.hessian_reader.proofs.OneWay.{Fronts, fronts}

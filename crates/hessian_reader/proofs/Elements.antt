@@ -23,7 +23,7 @@ use Rattle.hessian_reader.specs.declared.element.Want.{Want}
 use Rattle.hessian_reader.specs.declared.element.Want.TheVariants as wants
 use Rattle.hessian_reader.specs.declared.lexer.Inside.{Inside}
 use Rattle.hessian_reader.specs.declared.lexer.Inside.TheVariants as insides
-use Rattle.hessian_reader.specs.Elements.{HeadCode, TakesInt, TakesText, IsElement, BeginsElement}
+use Rattle.hessian_reader.specs.Elements.{HeadCode, TakesInt, TakesText, IsElement}
 use Rattle.hessian_reader.specs.Elements.TakesInt.{int as t_int, type as t_int_type}
 use Rattle.hessian_reader.specs.Elements.TakesText.{text as t_text, type as t_text_type}
 use Rattle.hessian_reader.specs.Elements.IsElement.{scalar as e_scalar, text as e_text, binary as e_binary, code as e_code, number as e_number, words as e_words}
@@ -31,6 +31,13 @@ use Rattle.hessian_reader.specs.Codes.{head_of, kind_of, value_of, scalar_elemen
 use Rattle.hessian_reader.specs.Leaves.{scalar_bytes}
 use Rattle.hessian_reader.specs.Lexing.{BeginsScalar, TakesChunks, Holds}
 use Rattle.hessian_reader.proofs.LeafCodes.{head_is, head_no_kind, chunk_kind, scalar_apart}
+
+-- these bytes are the beginning of an element, and not all of it
+pub record BeginsElement (w : Want) (bytes : List ℕ) : Type 0 where
+  pub element : Element
+  pub more : List ℕ
+  pub lacks : more ≢ []
+  pub is : IsElement w (bytes ++ more) element
 
 -- ---- the three forms of elements
 

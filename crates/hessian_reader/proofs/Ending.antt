@@ -10,7 +10,7 @@ use Rattle.hessian_reader.specs.declared.store.Lacks.{Lacks}
 use Rattle.hessian_reader.specs.declared.store.OpenNode.{OpenNode}
 use Rattle.hessian_reader.specs.States.{Built, State, Place, AtValue, AtDefined, AtReference, AtType, AtLength, AtClass, AtName, AtCount, AtField, ToEnd, Count, Key, Mate, no_begun, values_so_far, lacks_none, is_at_value, is_done, node_named, graph_of}
 use Rattle.hessian_reader.proofs.Lacking.{LacksFit, AllFit, behind, to_come, Lacking, Lacks', plain_nodes, roots_lack}
-use Rattle.hessian_reader.specs.Slots.{tables_of}
+use Rattle.hessian_reader.proofs.Slots.{tables_of}
 use Rattle.hessian_reader.proofs.Ahead.{Ahead, Has, KindsAre, expects}
 use Rattle.hessian_reader.proofs.Ahead.Ahead.{value}
 

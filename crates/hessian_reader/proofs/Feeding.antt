@@ -9,7 +9,7 @@ use Rattle.hessian_reader.specs.declared.fault.HessianFault.{HessianFault}
 use Rattle.hessian_reader.specs.declared.reader.Fed.TheVariants as told
 use Rattle.hessian_reader.specs.declared.course.Course.{Course}
 use Rattle.hessian_reader.specs.declared.work.Work.{Work}
-use Rattle.hessian_reader.specs.Elements.{BeginsElement}
+use Rattle.hessian_reader.proofs.Elements.{BeginsElement}
 use Rattle.hessian_reader.specs.Lexing.{Holds}
 use Rattle.hessian_reader.specs.States.{State, start, want_at, is_done, graph_of}
 use Rattle.hessian_reader.specs.Steps.{Leads}
@@ -25,9 +25,6 @@ use Rattle.hessian_reader.proofs.Runs.{leads_join}
 pub record Stands (r : Course) (roots : ℕ) (fed front : List ℕ) : Type 0 where
   pub follows : Follows r roots (fed ++ front)
   pub fresh : front ≢ [] → (follows.came ≡ []) × (follows.unread ≡ [])
-
-pub stands_first : (r : Course) (roots : ℕ) (fed : List ℕ) → Follows r roots fed → Stands r roots fed []
-stands_first r roots fed f = record { follows = subst (Follows r roots) (sym (append-nil fed)) f; fresh = λ h. absurd (h refl) }
 
 -- the bytes of the element that has begun
 

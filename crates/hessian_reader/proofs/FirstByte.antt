@@ -23,7 +23,7 @@ use Rattle.hessian_reader.specs.Elements.{HeadCode, HasNoElement}
 use Rattle.hessian_reader.specs.Elements.HeadCode.{refer as h_refer, short_list as h_short_list, open_list as h_open_list, long_list as h_long_list, open_typed_list as h_open_typed_list, long_typed_list as h_long_typed_list, short_typed_list as h_short_typed_list, typed_map as h_typed_map, open_map as h_open_map, define as h_define, short_object as h_short_object, long_object as h_long_object, end as h_end}
 use Rattle.hessian_reader.specs.States.{State, Place, AtValue, AtDefined, AtReference, AtType, AtLength, AtClass, AtName, AtCount, AtField as FieldPlace, start, want_at, is_done}
 use Rattle.hessian_reader.specs.Steps.{Leads}
-use Rattle.hessian_reader.specs.Slots.{open_slots, left_slots, loose_form, slots_at, slots_of, tables_of}
+use Rattle.hessian_reader.proofs.Slots.{open_slots, left_slots, loose_form, slots_at, slots_of, tables_of}
 use Rattle.hessian_reader.specs.Faults.{faults}
 use Rattle.hessian_reader.proofs.Keeping.{sound_start, sound_leads}
 use Rattle.hessian_reader.proofs.Outcomes.{some_lacking}

@@ -34,7 +34,7 @@ use Rattle.hessian_reader.specs.Steps.{Outcome, if_room, at_value, may_end, end_
 use Rattle.hessian_reader.proofs.Lacking.{behind, Lacks'}
 use Rattle.hessian_reader.proofs.Opening.{LacksAll, end}
 use Rattle.hessian_reader.proofs.Sound.{Sound, sound_typed}
-use Rattle.hessian_reader.specs.Slots.{tables_of}
+use Rattle.hessian_reader.proofs.Slots.{tables_of}
 use Rattle.hessian_reader.proofs.Ahead.{line_form, FormFits, Ahead, KindsAre, Has, TakesValue, expects, value_has, value_tables, begins_has, begins_tables, kinds_typed, kinds_classed}
 use Rattle.hessian_reader.proofs.Ahead.Ahead.{value as a_value, defined as a_defined, reference as a_reference, type as a_type, len as a_len, class as a_class, class_name as a_class_name, field_count as a_field_count, fields as a_fields}
 

@@ -20,12 +20,13 @@ use Rattle.hessian_text.proofs.Answering.{code_at, item_at}
 use Rattle.hessian_reader.specs.declared.element.Want.{Want}
 use Rattle.hessian_reader.specs.declared.element.Want.TheVariants as wants
 use Rattle.hessian_reader.specs.Leaves.{hessian, node_limit}
-use Rattle.hessian_reader.specs.Elements.{BeginsElement, HasNoElement}
+use Rattle.hessian_reader.specs.Elements.{HasNoElement}
+use Rattle.hessian_reader.proofs.Elements.{BeginsElement}
 use Rattle.hessian_reader.specs.Codes.{chunk_element}
 use Rattle.hessian_reader.specs.Lexing.{TakesChunks, BeginsChunks}
 use Rattle.hessian_reader.specs.States.{State, Place, AtValue, AtDefined, AtReference, AtType, AtLength, AtClass, AtName, AtCount, AtField as FieldPlace, start, want_at, lacks_none, is_done}
 use Rattle.hessian_reader.specs.Steps.{Leads}
-use Rattle.hessian_reader.specs.Slots.{open_slots, left_slots, loose_form, slots_at, slots_of}
+use Rattle.hessian_reader.proofs.Slots.{open_slots, left_slots, loose_form, slots_at, slots_of}
 use Rattle.hessian_reader.specs.Faults.{faults}
 use Rattle.hessian_reader.proofs.Sound.{Sound}
 use Rattle.hessian_reader.proofs.Keeping.{sound_start, sound_leads}

@@ -24,6 +24,7 @@ pub mod Taking
 pub mod LexScalars
 pub mod LexChunks
 pub mod LexRefusals
+pub mod Slots
 pub mod SlotSteps
 pub mod Live
 pub mod LooseOnce

@@ -22,7 +22,7 @@ use Rattle.hessian_reader.specs.Leaves.{hessian, scalar_bytes, node_limit}
 use Rattle.hessian_reader.specs.States.{State, Place, AtValue, AtDefined, AtReference, AtType, AtLength, AtClass, AtName, AtCount, AtField as FieldPlace, ToEnd, Count, Key, Mate, start, want_at}
 use Rattle.hessian_reader.specs.Steps.{Leads}
 use Rattle.hessian_reader.specs.Steps.Leads.{here, on}
-use Rattle.hessian_reader.specs.Slots.{lacking_slots, slots_behind_value, open_slots, left_slots, loose_form, slots_at, slots_of, tables_of}
+use Rattle.hessian_reader.proofs.Slots.{lacking_slots, slots_behind_value, open_slots, left_slots, loose_form, slots_at, slots_of, tables_of}
 use Rattle.hessian_reader.proofs.Sound.{PlaceFits, Sound}
 use Rattle.hessian_reader.proofs.Keeping.{sound_take, sound_start, sound_leads}
 use Rattle.hessian_reader.proofs.SlotSteps.{loose_step}

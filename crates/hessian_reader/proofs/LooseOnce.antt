@@ -26,7 +26,7 @@ use Rattle.hessian_reader.specs.Elements.TakesInt.{int as t_int, type as t_int_t
 use Rattle.hessian_reader.specs.Elements.TakesText.{text as t_text, type as t_text_type}
 use Rattle.hessian_reader.specs.Elements.HeadCode.{refer as h_refer, short_list as h_short_list, open_list as h_open_list, long_list as h_long_list, open_typed_list as h_open_typed_list, long_typed_list as h_long_typed_list, short_typed_list as h_short_typed_list, typed_map as h_typed_map, open_map as h_open_map, define as h_define, short_object as h_short_object, long_object as h_long_object, end as h_end}
 use Rattle.hessian_reader.specs.Elements.IsElement.{scalar as e_scalar, text as e_text, binary as e_binary, code as e_code, number as e_number, words as e_words}
-use Rattle.hessian_reader.specs.Slots.{loose_form}
+use Rattle.hessian_reader.proofs.Slots.{loose_form}
 use Rattle.hessian_reader.proofs.Elements.{element_some, one_element}
 use Rattle.hessian_reader.proofs.OneWay.{Fronts, fronts, bytes_front, bytes_rest}
 use Rattle.hessian_reader.proofs.OneWay.Fronts.{first_shorter, second_shorter}

@@ -28,7 +28,7 @@ use Rattle.hessian_reader.specs.Elements.HeadCode.{refer as h_refer, short_list 
 use Rattle.hessian_reader.specs.Elements.IsElement.{scalar as e_scalar, text as e_text, binary as e_binary, code as e_code, number as e_number, words as e_words}
 use Rattle.hessian_reader.specs.States.{State, Place, AtValue, AtDefined, AtReference, AtType, AtLength, AtClass, AtName, AtCount, AtField as FieldPlace, ToEnd, Count, Key, Mate, begins_node, takes_value, begins_object, awaits_fields, want_at, lacks_none, is_done}
 use Rattle.hessian_reader.specs.Steps.{Outcome, if_room, at_value, may_end, end_of, end_step, below, natural, behind_type as goes_behind, class_step, head_step, number_step, words_step, take_element}
-use Rattle.hessian_reader.specs.Slots.{lacking_slots, open_slots, left_slots, loose_form, slots_at, slots_of, tables_of}
+use Rattle.hessian_reader.proofs.Slots.{lacking_slots, open_slots, left_slots, loose_form, slots_at, slots_of, tables_of}
 use Rattle.hessian_reader.specs.Faults.{faults, cause_of}
 use Rattle.hessian_reader.proofs.Lacking.{Positive, AreOpen}
 use Rattle.hessian_reader.proofs.Sound.{Sound}

@@ -9,7 +9,8 @@ use Rattle.hessian_text.proofs.Exactly.{front_bytes}
 use Rattle.hessian_reader.specs.declared.element.Element.{Element}
 use Rattle.hessian_reader.specs.declared.element.Want.{Want}
 use Rattle.hessian_reader.specs.Leaves.{IsDenoted}
-use Rattle.hessian_reader.specs.Elements.{IsElement, BeginsElement}
+use Rattle.hessian_reader.specs.Elements.{IsElement}
+use Rattle.hessian_reader.proofs.Elements.{BeginsElement}
 use Rattle.hessian_reader.specs.States.{State, start, want_at, is_done, graph_of}
 use Rattle.hessian_reader.specs.Steps.{Outcome, take_element, Leads}
 use Rattle.hessian_reader.specs.Steps.Leads.{here, on}

@@ -62,12 +62,6 @@ typed_fits c_long_list = tt
 typed_fits (c_short_list code is count) = tt
 typed_fits (c_map pairs) = pairs
 
-form_paired : (f : LineForm) (type : Text) (vs : List Value) → FormPairs f vs → IsPaired (typed_kind f type) vs
-form_paired Open type vs h = tt
-form_paired Long type vs h = tt
-form_paired Short type vs h = tt
-form_paired Pairs type vs h = h
-
 -- what one row adds: the symbols that follow fit, and a node that begins has whole pairs
 pub record Adds (g : Shape) (t t' : Tables) (ss' : List Symbol) : Type 0 where
   pub fits : SymbolsFit g ss'

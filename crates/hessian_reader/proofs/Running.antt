@@ -15,7 +15,7 @@ use Rattle.hessian_reader.specs.Steps.{Leads}
 use Rattle.hessian_reader.specs.Steps.Leads.{here, on}
 use Rattle.hessian_reader.proofs.Lacking.{Lacks', roots_lack}
 use Rattle.hessian_reader.proofs.Sound.{Sound}
-use Rattle.hessian_reader.specs.Slots.{tables_of}
+use Rattle.hessian_reader.proofs.Slots.{tables_of}
 use Rattle.hessian_reader.proofs.Ahead.{Ahead, Has}
 use Rattle.hessian_reader.proofs.Ahead.Ahead.{value}
 use Rattle.hessian_reader.proofs.Forward.{forward}

@@ -40,10 +40,6 @@ leads_join {b = b} (on x el rest a d is took joined leads) m = on x el (rest ++ 
 pub run_more : (s t u : State) (piece : List ℕ) (n used : ℕ) → Leads s (take n piece) t → Leads t (take used (take (length piece - n) (drop n piece))) u → Leads s (take (n + used) piece) u
 run_more s t u piece n used first rest = subst (λ b. Leads s b u) (sym (take-add n used piece)) (leads_join first (subst (λ r. Leads t (take used r) u) (rest_is n piece) rest))
 
--- a value may stand next, and something is lacking
-going : (s : State) → s.place ≡ AtValue → lacks_none s.built.open_nodes s.built.wanted ≡ false → is_done s ≡ false
-going s p some = rw p some
-
 -- one element where a value may stand
 pub one_leads : (s t : State) (x : Element) (element : List ℕ) → s.place ≡ AtValue → is_done s ≡ false → IsElement wants.AnyValue element x → take_element s x ≡ Ok t → Leads s element t
 one_leads s t x element p d is took = leads_more x element here d (subst (λ (q : Place). IsElement (want_at q) element x) (sym p) is) took

@@ -28,7 +28,7 @@ use Rattle.hessian_reader.specs.Elements.IsElement.{scalar as e_scalar, text as 
 use Rattle.hessian_text.specs.Spelling.{TextSpelling}
 use Rattle.hessian_reader.specs.States.{Built, State, Place, AtValue, AtDefined, AtReference, AtType, AtLength, AtClass, AtName, AtCount, AtField as FieldPlace, ToEnd, Count, Key, Mate, one_less, with_value, with_open, with_node, begins_node, takes_value, moves_to, closes, begins_object, field_count, learns_type, awaits_fields, lacks_none, is_done}
 use Rattle.hessian_reader.specs.Steps.{end_of, end_step, behind_type as goes_behind, header_step, class_step, head_step, number_step, words_step, take_element}
-use Rattle.hessian_reader.specs.Slots.{lacking_slots, slots_behind_value, open_slots, left_slots, loose_form, slots_at, slots_of, tables_of}
+use Rattle.hessian_reader.proofs.Slots.{lacking_slots, slots_behind_value, open_slots, left_slots, loose_form, slots_at, slots_of, tables_of}
 use Rattle.hessian_reader.proofs.Lacking.{Positive, AreOpen}
 use Rattle.hessian_reader.proofs.Sound.{PlaceFits, Sound}
 use Rattle.hessian_reader.proofs.Ahead.{TakesValue, value_tables, begins_tables}

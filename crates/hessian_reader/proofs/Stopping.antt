@@ -24,7 +24,7 @@ use Rattle.hessian_reader.specs.Elements.IsElement.{scalar as e_scalar, text as 
 use Rattle.hessian_reader.specs.States.{State, Place, AtValue, AtDefined, AtReference, AtType, AtLength, AtClass, AtName, AtCount, AtField as FieldPlace, start, want_at, lacks_none, is_done}
 use Rattle.hessian_reader.specs.Steps.{take_element, Leads}
 use Rattle.hessian_reader.specs.Steps.Leads.{here, on}
-use Rattle.hessian_reader.specs.Slots.{open_slots, left_slots, loose_form, slots_at, slots_of, tables_of}
+use Rattle.hessian_reader.proofs.Slots.{open_slots, left_slots, loose_form, slots_at, slots_of, tables_of}
 use Rattle.hessian_reader.specs.Faults.{faults, cause_of}
 use Rattle.hessian_reader.proofs.Sound.{PlaceFits, Sound}
 use Rattle.hessian_reader.proofs.Keeping.{sound_start, sound_leads}

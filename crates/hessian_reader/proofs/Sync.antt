@@ -15,7 +15,7 @@ use Rattle.hessian_reader.specs.Leaves.{hessian}
 use Rattle.hessian_reader.specs.States.{State, Place, AtValue, AtDefined, AtReference, AtType, AtLength, AtClass, AtName, AtCount, AtField as FieldPlace, Count, begins_node, takes_value, begins_object, awaits_fields, want_at}
 use Rattle.hessian_reader.specs.Steps.{behind_type as goes_behind, number_step, take_element, Leads}
 use Rattle.hessian_reader.specs.Steps.Leads.{here, on}
-use Rattle.hessian_reader.specs.Slots.{open_slots, left_slots, loose_form, slots_at, slots_of, tables_of}
+use Rattle.hessian_reader.proofs.Slots.{open_slots, left_slots, loose_form, slots_at, slots_of, tables_of}
 use Rattle.hessian_reader.proofs.Sound.{Sound}
 use Rattle.hessian_reader.proofs.Keeping.{sound_take}
 use Rattle.hessian_reader.proofs.Outcomes.{was_below, was_natural}

@@ -1,5 +1,5 @@
 -- Which bytes are a whole element, in a place that takes such elements.
-use Rattle.std.specs.Prelude.{◌≡◌, ◌≢◌, ℕ, ◌-◌, ℤ, List, [], ◌∷◌, ◌++◌}
+use Rattle.std.specs.Prelude.{◌≡◌, ℕ, ◌-◌, ℤ, List, [], ◌∷◌, ◌++◌}
 use Rattle.hessian_graph.specs.declared.value.Value.{Value}
 use Rattle.hessian_graph.specs.declared.value.Value.TheVariants as values
 use Rattle.hessian_graph.specs.Reading.{IsScalar, IsCode}
@@ -47,13 +47,6 @@ pub data IsElement : Want → List ℕ → Element → Type 0 where
   code : (h : Head) (code : ℕ) → HeadCode h code → IsElement wants.AnyValue (code ∷ []) (elements.Code h)
   number : (w : Want) (z : ℤ) (bytes : List ℕ) → TakesInt w → scalar_bytes (values.Int z) bytes → IsElement w bytes (elements.Number z)
   words : (w : Want) (text bytes : List ℕ) → TakesText w → TextSpelling text bytes → IsElement w bytes (elements.Words text)
-
--- these bytes are the beginning of an element, and not all of it
-pub record BeginsElement (w : Want) (bytes : List ℕ) : Type 0 where
-  pub element : Element
-  pub more : List ℕ
-  pub lacks : more ≢ []
-  pub is : IsElement w (bytes ++ more) element
 
 -- however the bytes go on, no element stands at their front
 abbrev pub HasNoElement : Want → List ℕ → Type 0

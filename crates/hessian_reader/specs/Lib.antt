@@ -9,7 +9,6 @@ pub mod Views
 pub mod Finish
 pub mod Lexing
 pub mod Starting
-pub mod Slots
 pub mod Faults
 pub mod Refusing
 pub mod Course

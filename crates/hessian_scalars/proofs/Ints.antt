@@ -97,9 +97,6 @@ get-drop zero bytes = refl
 get-drop (suc at) [] = refl
 get-drop (suc at) (b ∷ bytes) = get-drop at bytes
 
-pair_is : (x y : ℤ × ℕ) → ◌≡◌ {A = Result (ℤ × ℕ) ScalarFault} (Ok x) (Ok y) → x ≡ y
-pair_is x y e = cc
-
 -- the answer behind a code: by whether it is an int's
 behind_int : (at total c : ℕ) (bs : List ℕ) → is_int_code c ≡ true → int_at at total (c ∷ bs) ≡ int_placed at total (front_of (c ∷ bs))
 unfolding int_at

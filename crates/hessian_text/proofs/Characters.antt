@@ -32,9 +32,6 @@ head_is x y xs ys e = cc
 tail_is : (x y : ℕ) (xs ys : List ℕ) → x ∷ xs ≡ y ∷ ys → xs ≡ ys
 tail_is x y xs ys e = cc
 
-grown_by : (item : Item) (begun p q : Begun) (b c : ℕ) (bs value rest : List ℕ) (units : ℕ) → item ≡ Grows p → p ≡ q → begun_bytes q ≡ begun_bytes begun ++ b ∷ [] → Goes item begun b bs value units rest
-grown_by item begun p q b c bs value rest units e f g = grown q (e ∙ ap Grows f) g
-
 same_one : (left a x : ℕ) (t bs : List ℕ) → a < 0x80 → a ∷ t ≡ x ∷ bs → Goes (first_byte left x) Nothing x bs (a ∷ []) 1 t
 same_one left a x t bs h e = subst (λ y. Goes (first_byte left y) Nothing y bs (a ∷ []) 1 t) (head_is a x t bs e) (ended (Single a) (ahead_one left a h) refl refl (tail_is a x t bs e))
 

@@ -30,9 +30,6 @@ units_some c = elim (cases_lt c 0x10000) [
   | inr l ↦ let e : length (encode_utf16 c) ≡ 2 = ap length (units_high c l) in omega arith
 ]
 
-at_end : (xs ys : List ℕ) (m n : ℕ) → xs ≡ ys → slice_index ys m ≡ n → slice_index xs m ≡ n
-at_end xs ys m n e h = ap (λ x. slice_index x m) e ∙ h
-
 last_one : (c n : ℕ) → (c < 0xd800) ⊎ ((0xe000 ≤ c) × (c < 0x110000)) → suc n ≡ length (encode_utf16 c ++ []) → IsLow (slice_index (encode_utf16 c ++ []) n)
 last_one c n s e = elim (cases_lt c 0x10000) [
   | inl h ↦

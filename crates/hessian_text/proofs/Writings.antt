@@ -19,18 +19,11 @@ use Rattle.hessian_text.specs.Units.{utf16, IsFirstChunk}
 use Rattle.hessian_text.proofs.Shapes.{encode_one, units_low}
 use Rattle.hessian_text.proofs.TextUnits.{cut_on, front_on, parts_of}
 
-pub begins_at_once : (old : List ℕ) → BeginsWith old old
-begins_at_once old = record { more = []; appended = sym (append-nil old) }
-
 pub begins_more : (old mid new w : List ℕ) → mid ≡ old ++ w → BeginsWith mid new → BeginsWith old new
 begins_more old mid new w e b = record { more = w ++ b.more; appended = b.appended ∙ ap (λ x. x ++ b.more) e ∙ append_assoc old w b.more }
 
 pub begins_on : (old mid new : List ℕ) → BeginsWith old mid → BeginsWith mid new → BeginsWith old new
 begins_on old mid new a b = begins_more old mid new a.more a.appended b
-
--- what is left after the bytes that were appended are taken back
-pub taken_back : (old mid new : List ℕ) → BeginsWith old mid → new ≡ take (length old) mid → new ≡ old
-taken_back old mid new b e = e ∙ ap (take (length old)) b.appended ∙ take-append_seam old b.more
 
 -- ---- bytes that are their own forms
 

@@ -83,9 +83,6 @@ unknown_type types firsts used later fit number there none is old new a t same =
     let grown : t.types ++ type ∷ [] ≡ listed [] types later.order = ap (λ x. x ++ type ∷ []) same ∙ sym (listed_more [] types firsts used fit number there) ∙ ap (λ (u : Numbered). listed [] types u.order) (sym is) in
     subst (λ x. AppendsType type t (record t { types = x }) old new) grown (record { bytes = a.written; is = form; joined = a.appended })
 
-pub more_fit : {N : Type 0} (none : N) (old : List N) (firsts : List ℕ) (used later : Numbered) → NamesFit none old firsts used → (name : ℕ) → name < length old → later ≡ record used { order = used.order ++ get_or firsts name 0 ∷ [] } → NamesFit none old firsts later
-more_fit none old firsts used later fit name there is = subst (λ u. NamesFit none old firsts u) (sym is) (used_more none old firsts used fit name there)
-
 -- a class that has been defined
 pub known_object : (classes : List Class) (firsts : List ℕ) (used : Numbered) → NamesFit no_class classes firsts used → (number k : ℕ) → number < length classes → place_of (get_or firsts number 0) used.order ≡ Some k → (old new : List ℕ) → ((t : Tables) (class : Class) → IsEarliest no_class t.classes class k → AppendsHead (ObjectKind class) (length class.fields) t (one_more t) old new) → (t : Tables) → t.classes ≡ listed no_class classes used.order → AppendsHead (ObjectKind (get_or classes number no_class)) (length (get_or classes number no_class).fields) t (one_more (record t { classes = listed no_class classes used.order })) old new
 known_object classes firsts used fit number k there place old new write t same =

@@ -1,6 +1,6 @@
 -- Equal names of a table share one number.
 use Rattle.std.proofs.Common.{◌≡◌, ℕ, zero, suc, ◌+◌, ◌<◌, cond, List, [], ◌∷◌, ◌++◌, length, get_or, refl, ap, sym, ◌∙◌, subst, arith, inl, inr, length-append}
-use Rattle.std.specs.Prelude.{Option, Some, None, map, All}
+use Rattle.std.specs.Prelude.{Option, Some, None, map}
 use Rattle.std.specs.Str.{bytes_eq}
 use Rattle.std.specs.Cmp.Lexicographic.{bytes_decides}
 use Rattle.std.proofs.lemmas.Bool.{cases_Bool, cases_lt, cases_eq, eq-eqb, ne_eqb, cond-true, cond-false}
@@ -12,7 +12,7 @@ use Rattle.hessian_graph.proofs.Places.{place_within, place_shows, some_place}
 use Rattle.hessian_graph.proofs.TableSteps.{front_get, last_get}
 use Rattle.hessian_graph.proofs.Values.{some_is, not_both}
 use Rattle.hessian_writer.specs.declared.keys.Keys.{Keys}
-use Rattle.hessian_writer.specs.Numbered.{Numbered, none_of}
+use Rattle.hessian_writer.specs.Numbered.{Numbered}
 use Rattle.hessian_writer.specs.Sharing.{find_key, IsFirst, KeysFit, AreFirsts, IsOwnFirst, NamesFit, listed}
 
 one_longer : {X : Type 0} (xs : List X) (n : X) → length (xs ++ n ∷ []) ≡ length xs + 1
@@ -24,13 +24,6 @@ each_place P n before last i h = elim (cases_lt i n) [
   | inl b ↦ before i b
   | inr past ↦ let same : n ≡ i = omega (arith, h, past) in subst P same last
 ]
-
-pub no_keys : (k : Keys) → k.firsts.items ≡ [] → ((key : List ℕ) → find_key k key ≡ None) → KeysFit [] k
-no_keys k none empty = record {
-  long = ap length none;
-  finds = λ i h. absurd (omega (arith, h));
-  shows = λ key i e. absurd (not_both (find_key k key) i (empty key) e);
-}
 
 first_stays : (keys : List (List ℕ)) (firsts : List ℕ) (key : List ℕ) (i : ℕ) (more : List ℕ) (j : ℕ) → length firsts ≡ length keys → IsFirst keys firsts key i → IsFirst (keys ++ more ∷ []) (firsts ++ j ∷ []) key i
 first_stays keys firsts key i more j long f =
@@ -110,13 +103,6 @@ firsts_of none old keys k are fit =
 
 pub own_keys : (old : List (List ℕ)) → AreKeys [] old old
 own_keys old = record { long = refl; forth = λ i j h l e. e; back = λ i j h l e. e }
-
-pub unused_fit : {N : Type 0} (none : N) (old : List N) (firsts : List ℕ) (used : Numbered) → AreFirsts none old firsts → used ≡ none_of (length old) → NamesFit none old firsts used
-unused_fit none old firsts used are e = record {
-  firsts_are = are;
-  total_is = ap (λ (u : Numbered). u.total) e;
-  are_first = subst (λ (u : Numbered). All (IsOwnFirst (length old) firsts) u.order) (sym e) (λ k d h. absurd (omega (arith, h)));
-}
 
 one_before : (o : Option ℕ) (k : ℕ) → one_later o ≡ Some k → (j : ℕ) × (o ≡ Some j) × (k ≡ suc j)
 one_before None k e = cc

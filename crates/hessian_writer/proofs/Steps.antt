@@ -90,14 +90,6 @@ popped count stack rest t e all = back rest (subst (All (λ (x : Step). x.node <
     back [] a = a 0 t (omega arith)
     back (x ∷ xs) a = back xs (λ k d h. a (suc k) d (omega (arith, h)))
 
-pub kept_below : (count : ℕ) (stack rest : List Step) (t : Step) → stack ≡ rest ++ t ∷ [] → All (λ (x : Step). x.node < count) stack → All (λ (x : Step). x.node < count) rest
-kept_below count stack rest t e all = front rest (subst (All (λ (x : Step). x.node < count)) e all)
-  where
-    front : (xs : List Step) → All (λ (x : Step). x.node < count) (xs ++ t ∷ []) → All (λ (x : Step). x.node < count) xs
-    front [] a k d h = absurd (omega (arith, h))
-    front (x ∷ xs) a zero d h = a 0 d (omega arith)
-    front (x ∷ xs) a (suc k) d h = front xs (λ k d h. a (suc k) d (omega (arith, h))) k d (omega (arith, h))
-
 pub pushed_below : (count : ℕ) (stack : List Step) (t : Step) → All (λ (x : Step). x.node < count) stack → t.node < count → All (λ (x : Step). x.node < count) (stack ++ t ∷ [])
 pushed_below count [] t all h zero d l = h
 pushed_below count [] t all h (suc k) d l = absurd (omega (arith, l))

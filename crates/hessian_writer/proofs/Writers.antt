@@ -13,7 +13,6 @@ use Rattle.hessian_graph.specs.Shape.{Shape, NodeShape, shape_of, node_shape, ki
 use Rattle.hessian_graph.specs.Canon.{place_of}
 use Rattle.hessian_graph.specs.Reading.{Tables}
 use Rattle.hessian_graph.specs.Forms.{Written}
-use Rattle.hessian_graph.specs.Moving.{NamesThere}
 use Rattle.hessian_graph.proofs.Places.{place_within}
 use Rattle.hessian_graph.specs.Faults.{IsSound}
 use Rattle.hessian_graph.proofs.Closed.{closed_of}
@@ -58,9 +57,6 @@ kind_here p n node e = ap (λ (x : NodeShape). x.kind) (shape_at p n) ∙ ap (ki
 
 pub values_here : (p : Parts) (n : ℕ) (node : Node) → node ≡ get_or p.nodes n no_vertex → values_at (shape_of p) n ≡ values_of node
 values_here p n node e = ap (λ (x : NodeShape). x.values) (shape_at p n) ∙ ap values_of (sym e)
-
-pub there_here : (p : Parts) (n : ℕ) (node : Node) → CanWrite p → n < length p.nodes → node ≡ get_or p.nodes n no_vertex → NamesThere p.types p.classes node
-there_here p n node ready h e = subst (NamesThere p.types p.classes) (sym e) (ready.there n h)
 
 pub short_here : (p : Parts) (n : ℕ) (node : Node) → CanWrite p → n < length p.nodes → node ≡ get_or p.nodes n no_vertex → IsShortKind (kind_of p.types p.classes node) (values_of node)
 short_here p n node ready h e =
@@ -140,12 +136,6 @@ node_below p n at number behind node old mid ready within e run =
     let is : get_or (values_at (shape_of p) n) (behind - 1) values.Null ≡ values.Node number = subst (λ x. get_or x (behind - 1) values.Null ≡ values.Node number) (sym e) run.is_node in
     let below = all (behind - 1) values.Null h number (ap node_of is) in
     omega (arith, below, d)
-
--- one node's part in the whole
-pub drained : (p : Parts) (first : State) (stack rest : List Step) (t : Step) (s s' : State) (ds ds' last_due : List Due) → stack ≡ rest ++ t ∷ [] → GoesOn hessian_forms (shape_of p) first ds' s (due_on (shape_of p) (reverse stack) ds) → GoesOn hessian_forms (shape_of p) s (values_then (drop t.at (values_at (shape_of p) t.node)) (end_then (kind_at (shape_of p) t.node) (due_on (shape_of p) (reverse rest) ds))) s' last_due → GoesOn hessian_forms (shape_of p) first ds' s' last_due
-drained p first stack rest t s s' ds ds' last_due e a b =
-    let g : Shape = shape_of p in
-    both a (subst (λ x. GoesOn hessian_forms g s x s' last_due) (sym (ap (λ x. due_on g (reverse x) ds) e ∙ due_push g rest t ds)) b)
 
 -- what leads from the roots to their end is the writer's spelling
 pub all_written : (g : Shape) (out new order : List ℕ) (last : Tables) → ((ds : List Due) → GoesOn hessian_forms g (begun_state out) (values_then g.roots ds) (record { order = order; tables = last; out = new }) ds) → Appends (Written hessian hessian_forms g) out new

@@ -5,7 +5,6 @@ use Rattle.std.proofs.lemmas.List.{append-nil}
 use Rattle.dubbo_header.specs.declared.header.Header.{Header}
 use Rattle.dubbo_header.specs.Header.{header_bytes}
 use Rattle.dubbo_header.proofs.HeaderLemmas.{length-header_bytes}
-use Rattle.dubbo_io.specs.Count.{Rose}
 use Rattle.dubbo_io.specs.Source.{SourceState, GoesOn}
 use Rattle.dubbo_io.proofs.Going.{GoesOn-none}
 use Rattle.link_frames.specs.Begun.{header_of, left_of}
@@ -152,7 +151,3 @@ pub fed_end : {Badge : Type 0} (old new : SourceState Badge) (place : ℕ) (held
 fed_end old new place held came after started fed e goes none unfinished ends has over =
     let same : held ++ came ≡ held = ap (λ (l : List ℕ). held ++ l) none ∙ append-nil held in
     fed_ended old new place held came after started fed e goes (end_answers old new place (held ++ came) came after e (subst IsUnfinished (sym same) unfinished) ends has over)
-
-pub fed_lost : {Badge : Type 0} (old new : SourceState Badge) (place : ℕ) (held came : List ℕ) (after : Paused) (started : Option Header) (fed : List ℕ) → GoesOn old new came → Rose old.faults new.faults → HasEnded after (ending.Lost 1) → StepsFed old new place held after started fed (Some (outcome.Lost 1))
-fed_lost old new place held came after started fed goes rose has =
-    fed_ended old new place held came after started fed (ending.Lost 1) goes (rose, omega arith, omega (arith, rose), has)

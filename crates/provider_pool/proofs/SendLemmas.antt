@@ -41,9 +41,6 @@ nothing_begins = short_none [] (omega arith)
 pub frames_none : HasFrames [] [] []
 frames_none = record { whole = tt; split = refl; none = nothing_begins }
 
-pub frames_whole : (frames : List Frame) → AllByRecursion IsFrame frames → HasFrames (joined frames) frames []
-frames_whole frames whole = record { whole = whole; split = sym (append-nil (joined frames)); none = nothing_begins }
-
 -- whole frames, and then a stream
 pub frames_behind : (frames : List Frame) (bytes : List ℕ) (later : List Frame) (rest : List ℕ) → AllByRecursion IsFrame frames → HasFrames bytes later rest → HasFrames (joined frames ++ bytes) (frames ++ later) rest
 frames_behind frames bytes later rest whole has = record {
@@ -53,9 +50,6 @@ frames_behind frames bytes later rest whole has = record {
 }
 
 -- ---- one frame that was sent
-
-pub sent_whole : {Badge : Type 0} (old new : SinkState Badge) (frame : Frame) → Sends old new (frame_bytes frame) → Sends old new (joined (frame ∷ []))
-sent_whole old new frame sends = subst (Sends old new) (sym (joined_one frame)) sends
 
 in_part : {Badge : Type 0} (old new : SinkState Badge) (frame : Frame) (fault : WriteFault) → IsFrame frame → StopsWriting old new (frame_bytes frame) fault → (b : Bool) → nat_eq (gone_of fault) (16 + length frame.body) ≡ b → WritesPart old new (frame ∷ []) (faults_of fault) (if b then 1 else 0)
 in_part old new frame fault whole stops true same =

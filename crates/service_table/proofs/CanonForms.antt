@@ -1,37 +1,24 @@
 -- The canonical form of a graph: that it is one, that isomorphic graphs share it, its parts, and how many nodes it has.
-use Rattle.std.proofs.Common.{◌≡◌, ℕ, ◌<◌, ◌≤◌, List, [], ◌∷◌, length, get_or, set, refl, ap, sym, ◌∙◌, subst, arith}
-use Rattle.std.specs.Prelude.{Option, Some, None, map, All, replicate}
+use Rattle.std.proofs.Common.{◌≡◌, ℕ, ◌<◌, ◌≤◌, List, [], length, set, refl, ap, sym, ◌∙◌, arith}
+use Rattle.std.specs.Prelude.{Option, Some, None, All, replicate}
 use Rattle.std.proofs.lemmas.List.{length-map}
 use Rattle.std.proofs.lemmas.List.Elements.{All-append, All-head, All-tail}
 use Rattle.hessian_graph.specs.declared.value.Value.{Value}
-use Rattle.hessian_graph.specs.declared.value.Pair.{Pair}
-use Rattle.hessian_graph.specs.declared.node.Node.{Node}
-use Rattle.hessian_graph.specs.declared.node.Node.TheVariants as nodes
-use Rattle.hessian_graph.specs.declared.node.Class.{Class}
-use Rattle.hessian_graph.specs.declared.parts.Parts.{Parts}
-use Rattle.hessian_graph.specs.Shape.{Text, Shape, NodeShape, alternately, values_at, values_of, kind_of, node_shape, shape_of, no_vertex}
-use Rattle.hessian_graph.specs.Canon.{renumbered, moved, in_order, Visit, IsCanon}
+use Rattle.hessian_graph.specs.Shape.{Shape, values_at}
+use Rattle.hessian_graph.specs.Canon.{moved, in_order, Visit, IsCanon}
 use Rattle.hessian_graph.specs.Canon.Visit.{done, plain, again, first}
 use Rattle.hessian_graph.specs.Iso.{Iso}
 use Rattle.hessian_graph.specs.Work.{NamesBelow, IsClosed, FineAt}
 use Rattle.hessian_graph.proofs.Visits.{one_visit, some_visit}
-use Rattle.hessian_graph.proofs.Forms.{one_form}
 use Rattle.hessian_graph.proofs.Back.{iso_exactly}
 use Rattle.hessian_graph.proofs.Again.{form_stays}
 use Rattle.hessian_graph.proofs.Walking.{open_fine, new_fine}
-use Rattle.hessian_graph.proofs.Rebuilding.{shape_at}
 
 pub one_canon : (g a b : Shape) → IsCanon g a → IsCanon g b → a ≡ b
 one_canon g a b p q = p.2 ∙ ap (in_order g) (one_visit p.1 q.1) ∙ sym q.2
 
 pub some_canon : (g : Shape) → IsClosed g → (a : Shape) × IsCanon g a
 some_canon g closed = let v = some_visit g closed in (in_order g v.0, (v.0, v.1, refl))
-
--- isomorphic graphs have one canonical form
-pub shared_canon : (g h a : Shape) → IsClosed h → Iso g h → IsCanon g a → IsCanon h a
-shared_canon g h a closed iso canon =
-    let b = some_canon h closed in
-    subst (IsCanon h) (sym (one_form iso.0 g h iso.1 a b.0 canon b.1)) b.1
 
 -- a graph is isomorphic to its canonical form
 pub iso_form : (g a : Shape) → IsClosed g → IsClosed a → IsCanon g a → Iso g a
@@ -56,40 +43,3 @@ few_nodes g a closed (order, visit, is) =
     let few = few_ordered g order closed visit in
     let count : length a.nodes ≡ length order = ap (λ (x : Shape). length x.nodes) is ∙ length-map order (moved g order) in
     omega (arith, few, count)
-
--- a pair under new numbers
-abbrev moved_pair : List ℕ → Pair → Pair
-moved_pair order p = record { key = renumbered order p.key; value = renumbered order p.value }
-
-moved_pairs : (order : List ℕ) (ps : List Pair) → alternately (map (moved_pair order) ps) ≡ map (renumbered order) (alternately ps)
-moved_pairs order [] = refl
-moved_pairs order (p ∷ ps) = ap (λ vs. renumbered order p.key ∷ renumbered order p.value ∷ vs) (moved_pairs order ps)
-
--- a node under new numbers
-abbrev moved_node : List ℕ → Node → Node
-moved_node order (nodes.List t items) = nodes.List t (map (renumbered order) items)
-moved_node order (nodes.Map t pairs) = nodes.Map t (map (moved_pair order) pairs)
-moved_node order (nodes.Object c vs) = nodes.Object c (map (renumbered order) vs)
-
-moved_shape : (types : List Text) (classes : List Class) (order : List ℕ) (node : Node) → node_shape types classes (moved_node order node) ≡ record { kind = kind_of types classes node; values = map (renumbered order) (values_of node) }
-moved_shape types classes order (nodes.List t items) = refl
-moved_shape types classes order (nodes.Map t pairs) = ap (λ vs. record { kind = kind_of types classes (nodes.Map t pairs); values = vs }) (moved_pairs order pairs)
-moved_shape types classes order (nodes.Object c vs) = refl
-
-abbrev moved_parts : Parts → List ℕ → Parts
-moved_parts p order = record p { roots = map (renumbered order) p.roots; nodes = map (λ n. moved_node order (get_or p.nodes n no_vertex)) order }
-
-moved_all : (p : Parts) (order ns : List ℕ) → map (node_shape p.types p.classes) (map (λ n. moved_node order (get_or p.nodes n no_vertex)) ns) ≡ map (moved (shape_of p) order) ns
-moved_all p order [] = refl
-moved_all p order (n ∷ ns) =
-    let node : Node = get_or p.nodes n no_vertex in
-    let one : node_shape p.types p.classes (moved_node order node) ≡ moved (shape_of p) order n =
-    moved_shape p.types p.classes order node ∙ ap (λ (x : NodeShape). record { kind = x.kind; values = map (renumbered order) x.values }) (sym (shape_at p n)) in
-    ap (λ x. x ∷ map (node_shape p.types p.classes) (map (λ i. moved_node order (get_or p.nodes i no_vertex)) ns)) one ∙ ap (λ xs. moved (shape_of p) order n ∷ xs) (moved_all p order ns)
-
--- the canonical form of parts has parts
-pub canon_parts : (p : Parts) (a : Shape) → IsCanon (shape_of p) a → (q : Parts) × (shape_of q ≡ a)
-canon_parts p a (order, visit, is) = (
-  moved_parts p order,
-  ap (λ xs. record { roots = map (renumbered order) p.roots; nodes = xs }) (moved_all p order order) ∙ sym is,
-)

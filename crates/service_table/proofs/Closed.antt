@@ -156,19 +156,6 @@ answer_closed kind g closed few =
       overflow = object_closed overflow_class;
     }) kind
 
--- what a kind answers has one root
-pub answer_roots : (kind : Service) (g : Shape) → OfGraph (λ x. length x.roots ≡ 1) (answer kind g)
-answer_roots kind g = of_answer (λ x. length x.roots ≡ 1) g (record {
-  null = refl;
-  long = λ z. refl;
-  first = refl;
-  args = refl;
-  twice = refl;
-  turned = λ n named type is. refl;
-  knot = refl;
-  overflow = refl;
-}) kind
-
 -- what a kind answers has one node more than the arguments at most
 pub answer_nodes : (kind : Service) (g : Shape) → OfGraph (λ x. length x.nodes ≤ suc (length g.nodes)) (answer kind g)
 answer_nodes kind g =

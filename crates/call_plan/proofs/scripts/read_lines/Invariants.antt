@@ -1,5 +1,5 @@
 use Rattle.std.proofs.Common.{length}
-use Rattle.call_plan.specs.Progress.{IsReadTo}
+use Rattle.call_plan.proofs.Scripting.{IsReadTo}
 use Rattle.call_plan.proofs.scripts.read_lines.Given as goal
 
 abbrev pub invariant-loop-rest : goal.invariant-loop-rest

@@ -1,4 +1,5 @@
-use Rattle.hash_ring.specs.Held.{pairs, GrewByAll, IsPointBelow}
+use Rattle.hash_ring.specs.Held.{pairs, GrewByAll}
+use Rattle.hash_ring.proofs.Growing.{IsPointBelow}
 use Rattle.hash_ring.proofs.held.put_points.Given as goal
 
 abbrev pub invariant-loop-round : goal.invariant-loop-round

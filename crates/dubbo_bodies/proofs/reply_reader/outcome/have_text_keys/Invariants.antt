@@ -1,6 +1,6 @@
 use Rattle.std.specs.Prelude.{drop}
 use Rattle.hessian_graph.specs.Shape.{alternately}
-use Rattle.dubbo_bodies.specs.ReplyKinds.{SameKeys}
+use Rattle.dubbo_bodies.proofs.ReplyOutcome.{SameKeys}
 use Rattle.dubbo_bodies.proofs.reply_reader.outcome.have_text_keys.Given as goal
 
 abbrev pub invariant-loop-pair : goal.invariant-loop-pair

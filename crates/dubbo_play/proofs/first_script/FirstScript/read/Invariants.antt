@@ -1,5 +1,5 @@
 use Rattle.std.proofs.Common.{length}
-use Rattle.dubbo_play.specs.Reading.{IsReadTo}
+use Rattle.dubbo_play.proofs.Scripts.{IsReadTo}
 use Rattle.dubbo_play.proofs.first_script.FirstScript.read.Given as goal
 
 abbrev pub invariant-loop-rest : goal.invariant-loop-rest
