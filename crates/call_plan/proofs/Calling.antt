@@ -1,9 +1,8 @@
 -- A line that names a call, by its fields.
-use Rattle.std.proofs.Common.{◌≡◌, ℕ, List, [], ◌∷◌, refl, sym, ap, subst, ◌∙◌, codes}
+use Rattle.std.proofs.Common.{◌≡◌, ℕ, List, ◌∷◌, refl, sym, ap, subst, ◌∙◌, codes}
 use Rattle.std.specs.List.{join_with_byte}
 use Rattle.hessian_graph.specs.declared.parts.Parts.{Parts}
 use Rattle.hessian_graph.specs.Shape.{Text}
-use Rattle.dubbo_bodies.specs.declared.message.Request.{Request}
 use Rattle.call_plan.specs.declared.calls.Call.{Call}
 use Rattle.call_plan.specs.declared.calls.Mode.{Mode}
 use Rattle.call_plan.specs.Words.{field_of, mode_word, SaysNumber, IsOptionalWord}

@@ -1,5 +1,5 @@
 -- The fields of a line, in the words of its pieces.
-use Rattle.std.proofs.Common.{◌≡◌, ℕ, suc, ◌<◌, ◌≤◌, List, [], ◌∷◌, ◌++◌, length, Option, None, Some, MatchOption, ap, ◌∙◌, arith}
+use Rattle.std.proofs.Common.{◌≡◌, ℕ, suc, ◌≤◌, List, [], ◌∷◌, ◌++◌, length, Option, None, Some, MatchOption, ap, ◌∙◌, arith}
 use denote.Ref.{Bor}
 use Rattle.call_plan.specs.Pieces.{pieces, Lack}
 use Rattle.call_plan.proofs.Cutting.{Unmarked}

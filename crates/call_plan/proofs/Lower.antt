@@ -1,5 +1,5 @@
 -- Laws of notations and graphs that the proofs of scripts rest on.
-use Rattle.std.proofs.Common.{◌≡◌, ℕ, List, length, ◌≤◌, ◌<◌, ◌^◌}
+use Rattle.std.proofs.Common.{◌≡◌, ℕ, List, length, ◌≤◌}
 use Rattle.hessian_graph.specs.declared.parts.Parts.{Parts}
 use Rattle.hessian_graph.specs.Shape.{Shape, shape_of}
 use Rattle.hessian_graph.specs.Faults.{IsSound}

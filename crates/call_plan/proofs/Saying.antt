@@ -1,17 +1,13 @@
 -- What a line says is determined by its bytes.
-use Rattle.std.proofs.Common.{◌≡◌, ◌≢◌, ◌⊎◌, ℕ, zero, suc, ◌+◌, ◌<◌, ◌≤◌, ◌^◌, List, [], ◌∷◌, ◌++◌, length, get_or, refl, sym, ap, subst, ◌∙◌, inl, inr, arith, codes}
+use Rattle.std.proofs.Common.{◌≡◌, ℕ, zero, suc, ◌≤◌, List, [], ◌∷◌, get_or, refl, sym, ap, subst, ◌∙◌, inl, inr, arith, codes}
 use Rattle.std.specs.List.{join_with_byte}
-use Rattle.hessian_graph.specs.declared.parts.Parts.{Parts}
-use Rattle.hessian_graph.specs.Shape.{Text, shape_of}
-use Rattle.dubbo_bodies.specs.declared.attachment.Attachment.{Attachment}
+use Rattle.hessian_graph.specs.Shape.{shape_of}
 use Rattle.dubbo_bodies.specs.declared.message.Request.{Request}
-use Rattle.service_table.specs.declared.kind.Kind.{Kind}
 use Rattle.service_table.specs.declared.row.Row.{Row}
 use Rattle.call_plan.specs.declared.calls.Call.{Call}
-use Rattle.call_plan.specs.declared.calls.Mode.{Mode}
 use Rattle.graph_notation.specs.Notation.{IsNotation}
-use Rattle.call_plan.specs.Words.{IsWord, IsOptionalWord, field_of, SaysNumber, mode_word, kind_word}
-use Rattle.call_plan.specs.LineForms.{IsSkipped, IsTarget, IsServiceLine, SayNumbers, AreArguments, HasField, IsCallLine, Line, nothing, offer, ask, Says, BeginsCall, attachments_of}
+use Rattle.call_plan.specs.Words.{field_of, SaysNumber, mode_word, kind_word}
+use Rattle.call_plan.specs.LineForms.{IsSkipped, IsTarget, IsServiceLine, HasField, IsCallLine, Line, nothing, offer, ask, Says, BeginsCall, attachments_of}
 use Rattle.call_plan.specs.Pieces.{pieces}
 use Rattle.call_plan.proofs.Lower.{one_notation_graph, one_parts}
 use Rattle.call_plan.proofs.Cutting.{Unmarked}

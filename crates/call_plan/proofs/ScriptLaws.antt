@@ -1,5 +1,5 @@
 -- Bytes are a script in one way, or are refused for one cause, and not both.
-use Rattle.std.proofs.Common.{◌≡◌, ◌≢◌, ◌⊎◌, ℕ, zero, suc, ◌+◌, ◌<◌, ◌≤◌, List, [], ◌∷◌, ◌++◌, length, refl, sym, ap, subst, ◌∙◌, inl, inr, arith, append_assoc}
+use Rattle.std.proofs.Common.{◌≡◌, ◌≢◌, ◌⊎◌, ℕ, suc, ◌<◌, List, [], ◌∷◌, ◌++◌, length, refl, sym, ap, subst, ◌∙◌, inl, inr, arith, append_assoc}
 use Rattle.std.specs.Prelude.{All}
 use Rattle.std.proofs.lemmas.List.{same_from_push}
 use Rattle.service_table.specs.declared.row.Row.{Row}
@@ -10,7 +10,7 @@ use Rattle.call_plan.specs.LineForms.{Line, Says, ask}
 use Rattle.call_plan.specs.Size.{IsSmall, IsFirstLarge, IsTooLarge}
 use Rattle.call_plan.specs.ScriptLines.{lines_of, HaveLines, IsGoodLine, IsCallTooMany, RefusesLine, rows_in, calls_in, MayFollow}
 use Rattle.call_plan.specs.ScriptLines.HaveLines.{none, more}
-use Rattle.call_plan.specs.ScriptReading.{Plan, IsScript, IsRefusedAtLine, IsTooLargeAt, Refuses}
+use Rattle.call_plan.specs.ScriptReading.{Plan, IsScript, IsRefusedAtLine, Refuses}
 use Rattle.call_plan.proofs.Saying.{says_once, begun_says}
 
 -- a list with something behind it isn't empty

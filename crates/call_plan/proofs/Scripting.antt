@@ -1,5 +1,5 @@
 -- Scripts, read line by line.
-use Rattle.std.proofs.Common.{◌≡◌, ◌≢◌, ◌⊎◌, ℕ, zero, suc, ◌+◌, ◌<◌, ◌≤◌, List, [], ◌∷◌, ◌++◌, length, Result, Ok, Err, refl, sym, ap, subst, ◌∙◌, inl, inr, arith, length-append, append_assoc, add-one}
+use Rattle.std.proofs.Common.{◌≡◌, ◌⊎◌, ℕ, suc, ◌+◌, ◌<◌, ◌≤◌, List, [], ◌∷◌, ◌++◌, length, Result, Ok, Err, refl, sym, ap, subst, ◌∙◌, inl, inr, arith, length-append, append_assoc}
 use Rattle.std.specs.Prelude.{All, OnOk, IfErr}
 use Rattle.std.proofs.lemmas.List.{append-nil}
 use Rattle.std.proofs.lemmas.List.Elements.{All-nil}
@@ -9,10 +9,10 @@ use Rattle.call_plan.specs.declared.fault.ScriptFault.{ScriptFault}
 use Rattle.call_plan.specs.declared.fault.ScriptFault.TheVariants.{BadLine, TooManyCalls, TooLarge, OutOfMemory}
 use Rattle.call_plan.specs.LineForms.{IsSkipped, Line, nothing, offer, ask, Says, BeginsCall}
 use Rattle.call_plan.specs.Size.{IsReady}
-use Rattle.call_plan.specs.ScriptLines.{lines_of, HaveLines, IsGoodLine, IsCallTooMany, RefusesLine, rows_in, calls_in}
+use Rattle.call_plan.specs.ScriptLines.{lines_of, HaveLines, IsGoodLine, RefusesLine, rows_in, calls_in}
 use Rattle.call_plan.specs.ScriptLines.HaveLines.{none, more}
-use Rattle.call_plan.specs.ScriptReading.{IsRefusedAtLine, Refuses}
-use Rattle.call_plan.specs.Progress.{Takes, TakesCall, TakesService, RefusesCall, RefusesService, IsDraft, IsRefusedEarly}
+use Rattle.call_plan.specs.ScriptReading.{Refuses}
+use Rattle.call_plan.specs.Progress.{Takes, TakesCall, TakesService, RefusesCall, RefusesService, IsRefusedEarly}
 use Rattle.service_table.specs.Adding.{MayAdd}
 use Rattle.call_plan.specs.LineForms.{IsServiceLine}
 use Rattle.call_plan.proofs.Saying.{begun_says, call_begun, service_once}

@@ -1,10 +1,9 @@
 -- Requests that are too large, and the first of them.
-use Rattle.std.proofs.Common.{◌≡◌, ℕ, suc, ◌+◌, ◌<◌, ◌≤◌, List, [], ◌∷◌, ◌++◌, length, All, refl, ap, sym, ◌∙◌, inl, inr, arith, length-append}
+use Rattle.std.proofs.Common.{◌≡◌, ℕ, ◌<◌, List, length, All, inl, inr, arith, length-append}
 use Rattle.std.proofs.lemmas.List.{length-map}
 use Rattle.dubbo_bodies.specs.declared.message.Request.{Request}
 use Rattle.hessian_graph.specs.declared.parts.Parts.{Parts}
 use Rattle.hessian_graph.specs.Shape.{shape_of, node_shape}
-use Rattle.std.proofs.lemmas.List.Elements.{All-nil, All-push}
 use Rattle.hessian_writer.specs.Leaves.{hessian, hessian_forms}
 use Rattle.dubbo_bodies.specs.WrittenBody.{IsTooLong, WrittenRequest}
 use Rattle.call_plan.specs.declared.calls.Call.{Call}

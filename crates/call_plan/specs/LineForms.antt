@@ -5,6 +5,7 @@ use Rattle.hessian_graph.specs.declared.parts.Parts.{Parts}
 use Rattle.hessian_graph.specs.Shape.{Text, shape_of}
 use Rattle.hessian_graph.specs.Faults.{IsSound}
 use Rattle.hessian_graph.specs.InUse.{InOrderOfUse}
+use Rattle.graph_notation.specs.Limit.{node_limit}
 use Rattle.graph_notation.specs.Notation.{IsNotation}
 use Rattle.dubbo_bodies.specs.declared.attachment.Attachment.{Attachment}
 use Rattle.dubbo_bodies.specs.Descriptor.{HasArgs}
@@ -35,13 +36,13 @@ pub record SayNumbers (timeout retries forks : List ℕ) (millis again links : �
   pub says_retries : SaysNumber 0 15 2 retries again
   pub says_forks : SaysNumber 1 8 2 forks links
 
--- The text is a notation of the arguments, which are as many as the descriptor has parameters, with at most 1,000,000 nodes.
+-- The text is a notation of the arguments, which are as many as the descriptor has parameters, with no more nodes than one may have.
 -- Types and classes stand in the order of first use.
 pub record AreArguments (desc : Text) (count : ℕ) (notation : List ℕ) (args : Parts) : Type 0 where
   pub counted : HasArgs desc count
   pub each : length args.roots ≡ count
   pub written : IsNotation notation (shape_of args)
-  pub few : length args.nodes ≤ 1000000
+  pub few : length args.nodes ≤ node_limit
   pub sound : IsSound args
   pub tables : InOrderOfUse args
 

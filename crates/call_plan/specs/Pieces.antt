@@ -1,5 +1,5 @@
 -- The pieces of a line between its spaces.
-use Rattle.std.specs.Prelude.{◌≡◌, ◌≢◌, ℕ, zero, suc, ◌≤◌, ◌==◌, List, [], ◌∷◌, ◌++◌, length, codes, cond, Option, Some, None}
+use Rattle.std.specs.Prelude.{◌≡◌, ℕ, zero, suc, ◌≤◌, ◌==◌, List, [], ◌∷◌, length, cond, Option, Some, None}
 use denote.Ref.{Bor}
 use Rattle.call_plan.specs.declared.scripts.fields.CallFields.{CallFields}
 use Rattle.call_plan.specs.ScriptLines.{onto_first}

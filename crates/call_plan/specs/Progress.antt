@@ -1,5 +1,5 @@
 -- How far a script has been read.
-use Rattle.std.specs.Prelude.{◌≡◌, ℕ, ◌+◌, ◌<◌, ◌≤◌, ◌++◌, List, [], ◌∷◌, length, All}
+use Rattle.std.specs.Prelude.{◌≡◌, ℕ, ◌<◌, ◌≤◌, ◌++◌, List, [], ◌∷◌, length, All}
 use Rattle.service_table.specs.declared.row.Row.{Row}
 use Rattle.service_table.specs.Adding.{MayAdd}
 use Rattle.call_plan.specs.declared.calls.Call.{Call}

@@ -1,5 +1,5 @@
 -- Which bytes are a script, what it has, and why other bytes are refused.
-use Rattle.std.specs.Prelude.{◌≡◌, ℕ, suc, ◌++◌, ◌≤◌, List, [], ◌∷◌, length, All}
+use Rattle.std.specs.Prelude.{◌≡◌, ℕ, suc, ◌++◌, ◌≤◌, List, ◌∷◌, length, All}
 use Rattle.service_table.specs.declared.row.Row.{Row}
 use Rattle.call_plan.specs.declared.calls.Call.{Call}
 use Rattle.call_plan.specs.declared.fault.ScriptFault.{ScriptFault}

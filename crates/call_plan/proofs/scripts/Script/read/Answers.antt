@@ -1,4 +1,4 @@
-use Rattle.std.proofs.Common.{sym, subst}
+use Rattle.std.proofs.Common.{subst}
 use Rattle.std.specs.Prelude.{All}
 use Rattle.call_plan.specs.Size.{IsSmall}
 use Rattle.call_plan.proofs.Scripting.{calls_few}

@@ -1,4 +1,4 @@
-use Rattle.std.proofs.Common.{◌≡◌, ℕ, length, refl, sym, ap, subst, ◌∙◌, arith, Ok}
+use Rattle.std.proofs.Common.{◌≡◌, length, refl, sym, ap, subst, ◌∙◌, arith, Ok}
 use Rattle.hessian_graph.specs.Shape.{shape_of}
 use Rattle.dubbo_bodies.specs.Descriptor.{HasArgs}
 use Rattle.call_plan.proofs.Arguing.{other_roots, no_notation}

@@ -1,5 +1,5 @@
-use Rattle.std.proofs.Common.{◌≡◌, ℕ, refl, sym, subst, arith}
-use Rattle.call_plan.specs.LineForms.{IsCallLine, SayNumbers, attachments_of}
+use Rattle.std.proofs.Common.{sym, subst, arith}
+use Rattle.call_plan.specs.LineForms.{IsCallLine, SayNumbers}
 use Rattle.call_plan.proofs.Arguing.{argument_short}
 use Rattle.call_plan.proofs.Calling.{numbers_there, field_there, arguments_there, call_made}
 use Rattle.call_plan.proofs.Saying.{call_cut, call_same}

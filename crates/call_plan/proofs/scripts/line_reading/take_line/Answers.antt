@@ -1,4 +1,4 @@
-use Rattle.call_plan.proofs.Scripting.{on_ok, if_err, takes_call, takes_service, refuses_call, refuses_service}
+use Rattle.call_plan.proofs.Scripting.{on_ok, takes_call, takes_service}
 use Rattle.call_plan.proofs.scripts.line_reading.take_line.Goals as goal
 
 pub returns-then-begins_call-clause-taken : goal.returns-then-begins_call-clause-taken

@@ -1,6 +1,4 @@
-use Rattle.std.proofs.Common.{◌≡◌, ◌≢◌, ℕ, ◌<◌, length, inl, inr, ap, refl, arith, true, false, Ok, Err}
-use Rattle.hessian_writer.specs.Leaves.{hessian, hessian_forms}
-use Rattle.dubbo_bodies.specs.WrittenBody.{IsTooLong, WrittenRequest}
+use Rattle.std.proofs.Common.{◌≡◌, ◌<◌, length, inr, ap, refl, arith, true, false, Err}
 use Rattle.call_plan.specs.Size.{IsTooLarge}
 use Rattle.call_plan.proofs.Sizing.{small_request}
 use Rattle.call_plan.proofs.scripts.sizes.is_too_large.Goals as goal
