@@ -14,7 +14,7 @@ pub struct Served {
 /// Why serving a link stopped before the source ended between two frames.
 #[derive(Clone, Copy, Debug, PartialEq, Eq, Error)]
 pub enum ServeFault {
-    /// The source or the sink failed; `faults` counts the failed calls that this call met.
+    /// The source or the sink failed; `faults` is at least 1, and at most what its count of faults is then.
     #[error("the link was lost after {faults} faults")]
     Lost { faults: u64 },
     /// The sixteen bytes at this place of the stream are no header.
@@ -23,7 +23,7 @@ pub enum ServeFault {
     /// The source ended inside the frame that begins at this place of the stream.
     #[error("the stream is cut short in the frame at {at}")]
     CutShort { at: u64 },
-    /// There was no memory for a call that wants no reply.
+    /// There was no memory. A call that wants a reply is answered with status 80 instead.
     #[error("out of memory")]
     OutOfMemory,
 }
