@@ -1,5 +1,5 @@
 -- What `decode` answers, and that it answers one status.
-use Rattle.std.proofs.Common.{◌≡◌, ◌≢◌, ℕ, List, [], ◌∷◌, ◌++◌, length, Result, Ok, Err, refl, sym, ap, subst}
+use Rattle.std.proofs.Common.{◌≡◌, ◌≢◌, ℕ, List, [], ◌∷◌, ◌++◌, length, Result, Ok, Err, refl, sym, subst}
 use Rattle.std.specs.Prelude.{IfOk}
 use Rattle.hessian_graph.specs.Shape.{Shape}
 use Rattle.hessian_reader.specs.Leaves.{IsDenoted}
@@ -8,7 +8,7 @@ use Rattle.hessian_reader.specs.declared.fault.HessianFault.{HessianFault}
 use Rattle.hessian_reader.specs.declared.fault.HessianFault.TheVariants.{OutOfMemory}
 use Rattle.graph_notation.specs.Notation.{PrintsForm}
 use Rattle.dubbo_bodies.specs.FaultTexts.{hessian_words}
-use Rattle.dubbo_main.specs.Decoding.{DecodeAnswers, IsDecoded, DenotesNone}
+use Rattle.dubbo_main.specs.Decoding.{DecodeAnswers}
 use Rattle.dubbo_main.specs.Decoding.DecodeAnswers.{decoded, damaged}
 use Rattle.dubbo_main.specs.FaultTexts.{damage_line}
 use Rattle.dubbo_main.specs.PlainCommands.{status_of, text_of}

@@ -1,7 +1,7 @@
 -- What `direct` answers.
 use Rattle.std.proofs.Common.{◌≡◌, ◌≢◌, ℕ, List, Result, Ok, Err, refl, sym, subst}
 use Rattle.std.specs.Prelude.{IfOk}
-use Rattle.call_plan.specs.ScriptReading.{Plan, Refuses}
+use Rattle.call_plan.specs.ScriptReading.{Refuses}
 use Rattle.call_plan.specs.declared.fault.ScriptFault.{ScriptFault}
 use Rattle.call_plan.specs.declared.fault.ScriptFault.TheVariants.{OutOfMemory}
 use Rattle.call_plan.proofs.ScriptLaws.{read_or_refused}

@@ -1,7 +1,7 @@
 -- What `frames` answers, frame by frame, and that it answers one status.
 use Rattle.std.proofs.Common.{◌≡◌, ◌≢◌, ℕ, ◌+◌, ◌<◌, ◌≤◌, List, [], ◌∷◌, ◌++◌, length, refl, sym, ap, subst, ◌∙◌, arith, append_assoc, append-nil, length-append}
 use Rattle.dubbo_header.specs.declared.header.Header.{Header}
-use Rattle.link_frames.specs.Frames.{Frame, Placed, FramesOf, HasFrames, BeginsNoFrame, IsFrame, frame_bytes, placed}
+use Rattle.link_frames.specs.Frames.{Frame, HasFrames, BeginsNoFrame, frame_bytes, placed}
 use Rattle.link_frames.proofs.FramesLemmas.{length-frame_bytes, placed_same}
 use Rattle.link_frames.proofs.ReadyLemmas.{first_of}
 use Rattle.dubbo_main.specs.Finding.{IsFirst, frame_of}

@@ -1,5 +1,5 @@
 -- Words call for one command at most.
-use Rattle.std.proofs.Common.{Option, None, Some, ◌≡◌, ◌≢◌, ◌⊎◌, ℕ, ◌≤◌, ◌+◌, ◌*◌, List, [], ◌∷◌, get_or, refl, sym, ap, subst, ◌∙◌, inl, inr, arith, codes}
+use Rattle.std.proofs.Common.{Option, None, Some, ◌≡◌, ◌≢◌, ℕ, ◌≤◌, ◌+◌, ◌*◌, List, [], ◌∷◌, get_or, refl, sym, ap, subst, ◌∙◌, inl, inr, arith, codes}
 use Rattle.std.specs.Prelude.{MatchOption, decimal}
 use Rattle.dubbo_main.specs.Words.{Calls, HasNoReading, HaveGenerated, HaveRoots, Names}
 use Rattle.dubbo_main.specs.declared.words.PlainCommand.{PlainCommand}

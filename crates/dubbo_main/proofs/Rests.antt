@@ -1,12 +1,12 @@
 -- The frame at the front of some bytes, or why they begin none.
-use Rattle.std.proofs.Common.{◌≡◌, ◌≢◌, ℕ, ◌+◌, ◌<◌, ◌≤◌, List, [], ◌∷◌, ◌++◌, length, take, drop, get_or, Option, Some, None, Result, Ok, Err, refl, sym, ap, subst, ◌∙◌, inl, inr, arith, append_assoc}
+use Rattle.std.proofs.Common.{◌≡◌, ◌≢◌, ℕ, ◌+◌, ◌<◌, ◌≤◌, List, [], ◌∷◌, ◌++◌, length, take, drop, get_or, Option, Some, None, refl, sym, ap, subst, ◌∙◌, inr, arith, append_assoc}
 use Rattle.std.proofs.lemmas.List.{take-append-drop}
 use Rattle.std.specs.Prelude.{MatchOption}
 use Rattle.dubbo_header.specs.declared.header.Header.{Header}
-use Rattle.dubbo_header.specs.Header.{MAGIC, IsHeader, IsTooLong, Spells, SpellsNone, header_bytes}
-use Rattle.link_frames.specs.Frames.{BeginsNoFrame, frame_bytes}
+use Rattle.dubbo_header.specs.Header.{MAGIC, IsHeader, IsTooLong, Spells, header_bytes}
+use Rattle.link_frames.specs.Frames.{BeginsNoFrame}
 use Rattle.link_frames.proofs.ReadyLemmas.{unfinished_rest}
-use Rattle.dubbo_main.specs.Finding.{IsFirst, frame_of}
+use Rattle.dubbo_main.specs.Finding.{IsFirst}
 use Rattle.dubbo_main.specs.Framing.{HasOtherMagic, StatesTooMuch}
 use Rattle.dubbo_main.specs.declared.commands.frames.finding.Found.{Found}
 

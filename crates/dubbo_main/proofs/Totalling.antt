@@ -1,7 +1,6 @@
 -- Totals of calls, one call after another.
-use Rattle.std.proofs.Common.{◌≡◌, ℕ, suc, ◌<◌, ◌≤◌, ◌+◌, ◌*◌, ◌^◌, ◌++◌, List, [], ◌∷◌, length, get_or, take, refl, sym, ap, subst, ◌∙◌, arith}
+use Rattle.std.proofs.Common.{◌≡◌, ℕ, suc, ◌<◌, ◌+◌, ◌++◌, List, [], ◌∷◌, length, get_or, take, sym, ap, subst, ◌∙◌, arith}
 use Rattle.std.proofs.Math.Seq.{take-suc}
-use Rattle.std.proofs.lemmas.List.{take_all}
 use Rattle.hessian_graph.specs.Shape.{Shape}
 use Rattle.hessian_graph.specs.Canon.{IsCanon, in_order}
 use Rattle.hessian_graph.proofs.Visits.{one_visit}
@@ -10,8 +9,8 @@ use Rattle.service_table.specs.declared.row.Row.{Row}
 use Rattle.service_table.specs.Endings.{Ending, IsCanonEnding, ending_of}
 use Rattle.service_table.specs.Direct.{IsDirect}
 use Rattle.call_plan.specs.declared.calls.Call.{Call}
-use Rattle.dubbo_main.specs.Generating.{AreOfFew, AreTotals, with_ending, no_totals}
-use Rattle.dubbo_main.specs.Generating.AreTotals.{none, more}
+use Rattle.dubbo_main.specs.Generating.{AreTotals, with_ending}
+use Rattle.dubbo_main.specs.Generating.AreTotals.{more}
 use Rattle.dubbo_main.specs.declared.commands.generate.totals.Totals.{Totals}
 
 -- a graph has one canonical form

@@ -1,5 +1,5 @@
 -- The second word of a command line.
-use Rattle.std.proofs.Common.{◌≡◌, ℕ, ◌≤◌, List, [], ◌∷◌, map, length, codes, refl, ap, sym, ◌∙◌, arith, Global, get_or}
+use Rattle.std.proofs.Common.{◌≡◌, ℕ, ◌≤◌, List, [], ◌∷◌, map, length, codes, ap, sym, ◌∙◌, arith, Global, get_or}
 use Rattle.std.specs.Prelude.{String, string_bytes}
 use Rattle.dubbo_main.specs.Words.{HasSecond, IsPlay}
 

@@ -1,5 +1,5 @@
 -- The line that the command `frames` prints of a frame: where it stands, what its header says, and what its body does.
-use Rattle.std.specs.Prelude.{◌≡◌, ℕ, Bool, true, false, List, [], ◌∷◌, ◌++◌, codes, decimal, if◌then◌else◌}
+use Rattle.std.specs.Prelude.{◌≡◌, ℕ, true, false, List, [], ◌∷◌, ◌++◌, codes, decimal, if◌then◌else◌}
 use Rattle.hessian_graph.specs.Shape.{shape_of}
 use Rattle.hessian_reader.specs.Leaves.{hessian, node_limit}
 use Rattle.graph_notation.specs.Elements.{quoted}
@@ -15,7 +15,7 @@ use Rattle.dubbo_bodies.specs.declared.message.Reply.{Reply}
 use Rattle.dubbo_bodies.specs.declared.message.Reply.TheVariants.{Value, Threw, Status}
 use Rattle.dubbo_bodies.specs.declared.fault.RequestFault.{RequestFault}
 use Rattle.dubbo_bodies.specs.declared.reply_fault.ReplyFault.{ReplyFault}
-use Rattle.link_frames.specs.Frames.{Frame, Placed}
+use Rattle.link_frames.specs.Frames.{Placed}
 
 -- what a header begins: an event, whatever else it marks; else a request that wants a reply, one that wants none, or a reply
 abbrev pub kind_word : Header → List ℕ
