@@ -148,8 +148,6 @@ ends_full header bytes piece v a used small full (m, ends', is, low) n ends =
     let long = length-append a.rest piece in
     omega (arith, at, same, long, full, low)
 
--- ---- before the first byte of the values
-
 -- ---- all values came
 
 pub values_denoted : (header : Header) (bytes : List ℕ) (v : Values) (a : AtValues header bytes v) (g : Parts) → ((n : ℕ) × (n ≤ length a.rest) × IsDenoted (take n a.rest) (shape_of g) × (length g.roots ≡ a.roots)) → IsDenoted a.rest (shape_of g)
